@@ -1,0 +1,15 @@
+pub mod Count
+pub mod Store
+pub mod Sink
+pub mod OpenFile
+pub mod FilesLemmas
+pub mod SinkLemmas
+pub mod OpenFileLemmas
+pub mod Plan
+pub mod MemSink
+pub mod MemLaws
+pub mod MemFiles
+pub mod MemStore
+pub mod FileStore
+pub mod StdSink
+pub mod UntoldLaws
