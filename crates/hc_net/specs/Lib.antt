@@ -1,0 +1,10 @@
+pub mod Bits
+pub mod Label
+pub mod Gate
+pub mod Run
+pub mod Valid
+pub mod Circuit
+pub mod Seal
+pub mod Order
+pub mod Place
+pub mod Sample

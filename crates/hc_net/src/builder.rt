@@ -1,0 +1,280 @@
+ghost use Rattle.std.specs.Prelude.{◌≡◌, ◌<◌, ◌≤◌, ℕ, suc, ◌+◌, ◌^◌, List, [], length, Option, Some, None, slice_get, IfOk, OnOk, OnErr, All, ◌∷◌, ◌++◌, ◌-◌, ◌⊎◌, take};
+ghost use Rattle.std.specs.List.{range_with_len};
+ghost use Rattle.hc_net.specs.Gate.{gate_bit};
+ghost use Rattle.hc_net.specs.Run.{Trace};
+ghost use Rattle.hc_net.specs.Circuit.{Circuit, History, with_node, with_node_at, with_input, with_output, input_count, Explains, Extends, GateReadsBelow, IsUnfed, IsUndriven, node_at, reading, input_bits_of, input_nodes, NodeReadsWithin};
+ghost use Rattle.hc_net.specs.Seal.{IsSealable, Seals};
+ghost use Rattle.hc_net.specs.declared.node.Node.{Node};
+ghost use Rattle.hc_net.specs.declared.node.Node.TheVariants.{Flop, Wire, Gate};
+
+use crate::gate::GateKind;
+use crate::label::{Label, Pins};
+use crate::net::{FlopName, Net, Port, Ports};
+use crate::nets::{Nets, NoMemory};
+use crate::node::{Node, Nodes};
+use crate::seal::sealed;
+use sqlite_items::Items;
+use std::alloc::Global;
+use std::marker::Model;
+
+/// Collects a netlist. Each net that a call gives is the number of its node. Every call takes only nets that this
+/// builder gave, and leaves the builder as it was where it answers `NoMemory`.
+#[derive(Drop)]
+pub struct Builder {
+    alloc: Global,
+    clock: Label,
+    ports: Ports,
+    nodes: Nodes,
+    inputs: u32,
+}
+
+impl Model for Builder {
+    ghost use Rattle.std.specs.Prelude.{◌≡◌};
+    ghost use Rattle.hc_net.specs.Circuit.{Circuit, IsBuilt, input_count};
+
+    ghost Value = { Circuit };
+
+    ghost view = { λ b. record { clock = b.clock; ports = b.ports; nodes = b.nodes } };
+
+    ghost invariant = { λ b. (b.inputs ≡ input_count b.ports) × IsBuilt (record { clock = b.clock; ports = b.ports; nodes = b.nodes }) };
+}
+
+impl Builder {
+    /// A builder with this clock pin and nothing else.
+    pub fn new(alloc: Global, clock: &Label) -> Result<Builder, NoMemory>
+        ensures { IfOk result (λ b. b ≡ record { clock = clock.now; ports = []; nodes = [] }) }
+    {
+        let clock = Label::new(alloc, clock.as_bytes())?;
+        Ok(Builder {
+            alloc,
+            clock,
+            ports: Items::new(alloc),
+            nodes: Items::new(alloc),
+            inputs: 0,
+        })
+    }
+
+    /// Adds a node that is no input.
+    fn add(&mut self, node: Node) -> Result<u32, NoMemory>
+        requires room { length self.old.nodes + 1 < 2 ^ 32 }
+        requires other { input_bits_of (node ∷ []) ≡ [] }
+        requires nets { NodeReadsWithin (length self.old.nodes) (length self.old.nodes) node }
+        ensures ok { IfOk result (λ net. (net ≡ length self.old.nodes) × (self.new ≡ with_node self.old node)) }
+        ensures earlier { OnOk result (Extends self.old.nodes self.new.nodes) }
+        ensures err { OnErr result (self.new ≡ self.old) }
+    {
+        let net = self.nodes.len() as u32;
+        match self.nodes.push(node) {
+            Ok(()) => Ok(net),
+            Err(_) => Err(NoMemory),
+        }
+    }
+
+    /// Names the net that a flip-flop or a placeholder reads.
+    fn connect(&mut self, net: u32, from: u32)
+        requires net { net < length self.old.nodes }
+        requires from { from < length self.old.nodes }
+        requires unread { IsUnfed (node_at self.old.nodes net) ⊎ IsUndriven (node_at self.old.nodes net) }
+        ensures connected { self.new ≡ with_node_at self.old net (reading from (node_at self.old.nodes net)) }
+        ensures earlier { Extends self.old.nodes self.new.nodes }
+    {
+        let node = self.nodes.as_slice()[net as usize].reading(from);
+        self.nodes.set(net as usize, node);
+    }
+
+    /// Adds an input port, and gives the net of each bit. The pins are none or one for each bit (a rule of `seal`).
+    pub fn input(&mut self, name: &Label, width: u32, pins: &Pins) -> Result<Nets, NoMemory>
+        requires nets { length self.old.nodes + width < 2 ^ 32 }
+        requires ports { length self.old.ports + 1 < 2 ^ 32 }
+        ensures ok { IfOk result (λ nets. (nets ≡ range_with_len (length self.old.nodes) width)
+            × (self.new ≡ with_input self.old name.now width pins.now)) }
+        ensures earlier { OnOk result (Extends self.old.nodes self.new.nodes) }
+        ensures err { OnErr result (self.new ≡ self.old) }
+    {
+        let net = self.nodes.len() as u32;
+        let nets = run_of_nets(self.alloc, net, width)?;
+        let port = Port::Input {
+            name: Label::new(self.alloc, name.as_bytes())?,
+            width,
+            pins: copy_pins(self.alloc, pins.as_slice())?,
+        };
+        add_input(&mut self.ports, &mut self.nodes, port, self.inputs, width)?;
+        self.inputs += 1;
+        Ok(nets)
+    }
+
+    /// Adds an output port with the net of each bit.
+    pub fn output(&mut self, name: &Label, pins: &Pins, from: &Nets) -> Result<(), NoMemory>
+        requires ports { length self.old.ports + 1 < 2 ^ 32 }
+        requires nets { All (λ k. k < length self.old.nodes) from.now }
+        ensures ok { OnOk result (self.new ≡ with_output self.old name.now pins.now from.now) }
+        ensures err { OnErr result (self.new ≡ self.old) }
+    {
+        let width = from.len().min(u32::MAX as usize) as u32;
+        let port = Port::Output {
+            name: Label::new(self.alloc, name.as_bytes())?,
+            width,
+            pins: copy_pins(self.alloc, pins.as_slice())?,
+            from: Nets::from_slice(self.alloc, from.as_slice())?,
+        };
+        match self.ports.push(port) {
+            Ok(()) => Ok(()),
+            Err(_) => Err(NoMemory),
+        }
+    }
+
+    /// Adds a flip-flop that starts with `init`, and gives its output. It is fed by `feed`.
+    pub fn flop(&mut self, name: FlopName, init: bool) -> Result<u32, NoMemory>
+        requires { length self.old.nodes + 1 < 2 ^ 32 }
+        ensures ok { IfOk result (λ net. (net ≡ length self.old.nodes)
+            × (self.new ≡ with_node self.old (Flop name init None))) }
+        ensures earlier { OnOk result (Extends self.old.nodes self.new.nodes) }
+        ensures value { IfOk result (λ net. (trace : Trace) (h : History) → Explains self.new.nodes trace h → h 0 net ≡ init) }
+        ensures err { OnErr result (self.new ≡ self.old) }
+    {
+        self.add(Node::Flop {
+            name,
+            init,
+            d: None,
+        })
+    }
+
+    /// Feeds a flip-flop that wasn't fed yet: from each edge on it has the bit that `d` had before the edge.
+    pub fn feed(&mut self, output: u32, d: u32)
+        requires flop { IsUnfed (node_at self.old.nodes output) }
+        requires net { d < length self.old.nodes }
+        ensures fed { self.new ≡ with_node_at self.old output (reading d (node_at self.old.nodes output)) }
+        ensures earlier { Extends self.old.nodes self.new.nodes }
+        ensures value { (trace : Trace) (h : History) → Explains self.new.nodes trace h → (t : ℕ) → h (suc t) output ≡ h t d }
+    {
+        self.connect(output, d);
+    }
+
+    /// Adds a placeholder of this rank, whose driver is named later by `drive`. Ranks keep loops of gates out: what
+    /// drives a placeholder reaches back through gates only placeholders of smaller rank (a rule of `seal`).
+    pub fn wire(&mut self, rank: u32) -> Result<u32, NoMemory>
+        requires { length self.old.nodes + 1 < 2 ^ 32 }
+        ensures ok { IfOk result (λ net. (net ≡ length self.old.nodes)
+            × (self.new ≡ with_node self.old (Wire rank None))) }
+        ensures earlier { OnOk result (Extends self.old.nodes self.new.nodes) }
+        ensures err { OnErr result (self.new ≡ self.old) }
+    {
+        self.add(Node::Wire { rank, from: None })
+    }
+
+    /// Names the driver of a placeholder that wasn't driven yet.
+    pub fn drive(&mut self, wire: u32, from: u32)
+        requires there { wire < length self.old.nodes }
+        requires wire { IsUndriven (node_at self.old.nodes wire) }
+        requires net { from < length self.old.nodes }
+        ensures driven { self.new ≡ with_node_at self.old wire (reading from (node_at self.old.nodes wire)) }
+        ensures earlier { Extends self.old.nodes self.new.nodes }
+        ensures value { (trace : Trace) (h : History) → Explains self.new.nodes trace h → (t : ℕ) → h t wire ≡ h t from }
+    {
+        self.connect(wire, from);
+    }
+
+    /// Adds a gate on the nets `a` and `b`, and gives its output. An input that the kind doesn't use is 0.
+    pub fn gate(&mut self, kind: GateKind, a: u32, b: u32) -> Result<u32, NoMemory>
+        requires room { length self.old.nodes + 1 < 2 ^ 32 }
+        requires nets { GateReadsBelow (length self.old.nodes) kind a b }
+        ensures ok { IfOk result (λ net. (net ≡ length self.old.nodes)
+            × (self.new ≡ with_node self.old (Gate kind a b))) }
+        ensures earlier { OnOk result (Extends self.old.nodes self.new.nodes) }
+        ensures value { IfOk result (λ net. (trace : Trace) (h : History) → Explains self.new.nodes trace h
+            → (t : ℕ) → h t net ≡ gate_bit kind (h t a) (h t b)) }
+        ensures err { OnErr result (self.new ≡ self.old) }
+    {
+        self.add(Node::Gate { kind, a, b })
+    }
+
+    /// The netlist: its ports and flip-flops in order, no more gates than were added, and each net with its bit.
+    pub fn seal(self) -> Result<Net, NoMemory>
+        requires { IsSealable self }
+        ensures { IfOk result (Seals self) }
+    {
+        let Builder {
+            alloc,
+            clock,
+            ports,
+            nodes,
+            inputs: _,
+        } = self;
+        sealed(alloc, clock, ports, &nodes)
+    }
+}
+
+/// The nets from `first` on, `count` of them.
+fn run_of_nets(alloc: Global, first: u32, count: u32) -> Result<Nets, NoMemory>
+    requires { first + count < 2 ^ 32 }
+    ensures { IfOk result (λ nets. nets ≡ range_with_len first count) }
+{
+    let mut nets = Nets::new(alloc);
+    for i in 0..count {
+        nets.push(first + i)?;
+    }
+    Ok(nets)
+}
+
+/// A copy of the pins of a port.
+fn copy_pins(alloc: Global, pins: &[Label]) -> Result<Pins, NoMemory>
+    ensures { IfOk result (λ copy. copy ≡ pins.now) }
+{
+    let mut copy = Items::new(alloc);
+    for pin in pins {
+        let pin = Label::new(alloc, pin.as_bytes())?;
+        if copy.push(pin).is_err() {
+            return Err(NoMemory);
+        }
+    }
+    Ok(copy)
+}
+
+/// Adds a port and the nodes of its bits. An error leaves both lists as they were.
+fn add_input(
+    ports: &mut Ports,
+    nodes: &mut Nodes,
+    port: Port,
+    number: u32,
+    width: u32,
+) -> Result<(), NoMemory>
+    ensures ok { OnOk result ((ports.new ≡ ports.old ++ port ∷ []) × (nodes.new ≡ nodes.old ++ input_nodes number width)) }
+    ensures err { OnErr result ((ports.new ≡ ports.old) × (nodes.new ≡ nodes.old)) }
+{
+    if ports.push(port).is_err() {
+        return Err(NoMemory);
+    }
+    match add_input_nodes(nodes, number, width) {
+        Ok(()) => Ok(()),
+        Err(NoMemory) => {
+            let _ = ports.pop();
+            Err(NoMemory)
+        }
+    }
+}
+
+/// Adds a node for each bit of an input port. An error leaves the list as it was.
+fn add_input_nodes(nodes: &mut Nodes, port: u32, width: u32) -> Result<(), NoMemory>
+    ensures ok { OnOk result (nodes.new ≡ nodes.old ++ input_nodes port width) }
+    ensures err { OnErr result (nodes.new ≡ nodes.old) }
+{
+    for bit in 0..width {
+        match nodes.push(Node::Input { port, bit }) {
+            Ok(()) => {}
+            Err(_) => {
+                drop_last(nodes, bit);
+                return Err(NoMemory);
+            }
+        }
+    }
+    Ok(())
+}
+
+/// Takes the last `count` nodes away.
+fn drop_last(nodes: &mut Nodes, count: u32)
+    ensures { nodes.new ≡ take (length nodes.old - count) nodes.old }
+{
+    for dropped in 0..count {
+        let _ = nodes.pop();
+    }
+}

@@ -1,0 +1,24 @@
+//! Netlists of flip-flops and gates, what they do clock by clock, and a builder that makes them.
+//!
+//! A `Net` keeps the rules of a valid netlist. A `Builder` takes ports, flip-flops, gates and placeholders in any
+//! order in which they come up, and `seal` gives the netlist with the same behaviour.
+#![tactic(auto)]
+
+mod builder;
+mod gate;
+mod label;
+mod laws;
+mod net;
+mod nets;
+mod node;
+mod seal;
+#[cfg(test)]
+mod tests;
+
+pub use builder::Builder;
+pub use gate::GateKind;
+pub use label::{Label, Pins};
+pub use laws::settles_once;
+pub use net::{Cell, Cells, Flop, FlopName, Flops, Net, Port, Ports, RawNet};
+pub use nets::{Nets, NoMemory};
+pub use node::{Node, Nodes};
