@@ -1,0 +1,7 @@
+pub mod Number
+pub mod Program
+pub mod Read
+pub mod Clock
+pub mod Run
+pub mod Sound
+pub mod Straight
