@@ -1,0 +1,304 @@
+-- What each answer of the top call says, from all of them together.
+use Rattle.std.specs.Prelude.{◌≡◌, ◌≢◌, ◌⊎◌, ◌<◌, ◌≤◌, ℕ, Bool, true, false, List, length, Option, Some, None, refl}
+use Rattle.std.proofs.Common.{sym, ◌∙◌, ap, subst, inl, inr, arith}
+use Rattle.hc_outside.specs.Count.{HasRisen, Moves, IsCount}
+use Rattle.hc_outside.specs.Store.{Disk, StoreState, IsFile, IsMissing, IsLonger, SameFiles}
+use Rattle.hc_outside.specs.Sink.{SinkState}
+use Rattle.hc_core.specs.declared.object.Core.{Core}
+use Rattle.hc_net.specs.declared.net.RawNet.{RawNet}
+use Rattle.hc_run.specs.declared.status.Role.{Role}
+use Rattle.hc_run.specs.declared.status.Role.TheVariants.{Source}
+use Rattle.hc_run.specs.declared.status.Status.{Status}
+use Rattle.hc_run.specs.declared.status.Status.TheVariants.{Done, Refused, Usage, ReadFault, WriteFault, NoMemory, Longer}
+use Rattle.hc_run.specs.FirstForm.{first_form}
+use Rattle.hc_run.specs.Words.{IsBuild, HasNoJob}
+use Rattle.hc_run.specs.Answer.{source_limit, not_built, Accepted, Compiles, IsWriteFault, IsNoMemory, IsDue, IsCutOff, Prints, MovesCounts, HasFile, LineFails, LoadFails, KeepsFiles}
+use Rattle.hc_run.specs.Steps.{Reports, written, stopped_by_fault, stopped_by_memory, Answers, told, fault, no_memory, cut_by_fault, cut_by_memory}
+use Rattle.hc_run.proofs.Jobs.{SameFiles-none}
+
+-- what is answered once the line of a due status was written, or cut off
+pub Answers-reported : (words : List (List ℕ)) (old new : StoreState) (out out' : SinkState) (due : Status) (line : List ℕ) (result : Status)
+    → IsDue words old new due line → Reports due line out out' result → Answers words old new out out' result
+Answers-reported words old new out out' due line result known (written is wrote) =
+    told line (subst (λ (s : Status). IsDue words old new s line) (sym is) known) wrote
+Answers-reported words old new out out' due line result known (stopped_by_fault is risen front) =
+    cut_by_fault is risen (record { due = due; line = line; is_due = known; front = front })
+Answers-reported words old new out out' due line result known (stopped_by_memory is front) =
+    cut_by_memory is (record { due = due; line = line; is_due = known; front = front })
+
+-- The clauses on a status.
+
+-- a status that has a line was due, and its line was written
+pub told_of : (words : List (List ℕ)) (old new : StoreState) (out out' : SinkState) (result due : Status) → due ≢ WriteFault → due ≢ NoMemory
+    → Answers words old new out out' result → result ≡ due → Prints (λ line. IsDue words old new due line) out out'
+told_of words old new out out' result due a b (told line known wrote) e =
+    record { line = line; fits = subst (λ (s : Status). IsDue words old new s line) e known; wrote = wrote }
+told_of words old new out out' result due a b (fault is h same) e = absurd (a (sym e ∙ is))
+told_of words old new out out' result due a b (no_memory is h same) e = absurd (b (sym e ∙ is))
+told_of words old new out out' result due a b (cut_by_fault is risen cut) e = absurd (a (sym e ∙ is))
+told_of words old new out out' result due a b (cut_by_memory is cut) e = absurd (b (sym e ∙ is))
+
+pub write_fault_of : (words : List (List ℕ)) (old new : StoreState) (out out' : SinkState) (result : Status)
+    → Answers words old new out out' result → result ≡ WriteFault
+    → (IsWriteFault words old new × (out' ≡ out)) ⊎ (IsCutOff words old new out out' × HasRisen out.faults out'.faults)
+write_fault_of words old new out out' result (told line known wrote) e = absurd (subst (λ (s : Status). IsDue words old new s line) e known)
+write_fault_of words old new out out' result (fault is h same) e = inl (h, same)
+write_fault_of words old new out out' result (no_memory is h same) e = absurd (cc)
+write_fault_of words old new out out' result (cut_by_fault is risen cut) e = inr (cut, risen)
+write_fault_of words old new out out' result (cut_by_memory is cut) e = absurd (cc)
+
+pub no_memory_of : (words : List (List ℕ)) (old new : StoreState) (out out' : SinkState) (result : Status)
+    → Answers words old new out out' result → result ≡ NoMemory
+    → (IsNoMemory words old new × (out' ≡ out)) ⊎ IsCutOff words old new out out'
+no_memory_of words old new out out' result (told line known wrote) e = absurd (subst (λ (s : Status). IsDue words old new s line) e known)
+no_memory_of words old new out out' result (fault is h same) e = absurd (cc)
+no_memory_of words old new out out' result (no_memory is h same) e = inl (h, same)
+no_memory_of words old new out out' result (cut_by_fault is risen cut) e = absurd (cc)
+no_memory_of words old new out out' result (cut_by_memory is cut) e = inr cut
+
+-- The clauses that say where a status comes.
+
+-- what is due, or what comes in its place where the line can't be written
+where_due : (words : List (List ℕ)) (old new : StoreState) (out out' : SinkState) (result : Status) (P : Status → Type 0)
+    → ((due : Status) (line : List ℕ) → IsDue words old new due line → P due) → (IsWriteFault words old new → ⊥)
+    → Answers words old new out out' result → P result ⊎ LineFails out out' result
+where_due words old new out out' result P due other (told line known wrote) = inl (due result line known)
+where_due words old new out out' result P due other (fault is h same) = absurd (other h)
+where_due words old new out out' result P due other (no_memory is h same) = inr (subst (LineFails out out') (sym is) tt)
+where_due words old new out out' result P due other (cut_by_fault is risen cut) = inr (subst (LineFails out out') (sym is) risen)
+where_due words old new out out' result P due other (cut_by_memory is cut) = inr (subst (LineFails out out') (sym is) tt)
+
+split : {A B C : Type 0} → (A ⊎ B) ⊎ C → A ⊎ B ⊎ C
+split (inl (inl a)) = inl a
+split (inl (inr b)) = inr (inl b)
+split (inr c) = inr (inr c)
+
+-- the words name one source
+same_source : {words : List (List ℕ)} {f n g m : List ℕ} → IsBuild words f n → IsBuild words g m → g ≡ f
+same_source h k = let a = h.words in let b = k.words in cc
+
+file-missing : (disk : Option Disk) (name bytes : List ℕ) → IsFile disk name bytes → IsMissing disk name → ⊥
+file-missing None name bytes h m = m
+file-missing (Some d) name bytes h m = cc
+
+longer-missing : (disk : Option Disk) (name : List ℕ) (limit : ℕ) → IsLonger disk name limit → IsMissing disk name → ⊥
+longer-missing None name limit h m = m
+longer-missing (Some d) name limit h m = rw m at h
+
+file-there : (disk : Option Disk) (name bytes : List ℕ) → HasFile disk name bytes → IsMissing disk name → ⊥
+file-there None name bytes h m = m
+file-there (Some d) name bytes h m = cc
+
+same_bytes : (disk : Option Disk) (name a b : List ℕ) → HasFile disk name a → IsFile disk name b → b ≡ a
+same_bytes None name a b h k = absurd h
+same_bytes (Some d) name a b h k = cc
+
+longer-there : (disk : Option Disk) (name bytes : List ℕ) (limit : ℕ) → HasFile disk name bytes → IsLonger disk name limit → limit < length bytes
+longer-there None name bytes limit h k = absurd h
+longer-there (Some d) name bytes limit h k = rw h at k
+
+-- words without a job
+
+usage_due : (words : List (List ℕ)) (old new : StoreState) → HasNoJob words → (due : Status) (line : List ℕ) → IsDue words old new due line → due ≡ Usage
+usage_due words old new none Done line h = absurd (none _ _ h.compiles.job)
+usage_due words old new none (Refused refusal) line h = absurd (none _ _ h.job)
+usage_due words old new none Usage line h = refl
+usage_due words old new none (ReadFault role) line h = absurd (none _ _ h.job)
+usage_due words old new none (Longer role) line h = absurd (none _ _ h.job)
+usage_due words old new none WriteFault line h = absurd h
+usage_due words old new none NoMemory line h = absurd h
+
+pub usage_where : (words : List (List ℕ)) (old new : StoreState) (out out' : SinkState) (result : Status)
+    → Answers words old new out out' result → HasNoJob words → (result ≡ Usage) ⊎ LineFails out out' result
+usage_where words old new out out' result h none =
+    where_due words old new out out' result (λ s. s ≡ Usage) (usage_due words old new none) (λ w. none _ _ w.compiles.job) h
+
+-- a source that isn't there
+
+compiles-missing : (words : List (List ℕ)) (old : StoreState) (file name other : List ℕ) (raw : RawNet) → IsBuild words file name → IsMissing old.disk file → Compiles words old other raw → ⊥
+compiles-missing words old file name other raw job missing h =
+    file-missing old.disk file h.bytes (subst (λ (f : List ℕ). IsFile old.disk f h.bytes) (same_source job h.job) h.source) missing
+
+missing_due : (words : List (List ℕ)) (old new : StoreState) (file name : List ℕ) → IsBuild words file name → IsMissing old.disk file
+    → (due : Status) (line : List ℕ) → IsDue words old new due line → due ≡ ReadFault Source
+missing_due words old new file name job missing Done line h = absurd (compiles-missing words old file name h.name h.raw job missing h.compiles)
+missing_due words old new file name job missing (Refused refusal) line h =
+    absurd (file-missing old.disk file h.bytes (subst (λ (f : List ℕ). IsFile old.disk f h.bytes) (same_source job h.job) h.source) missing)
+missing_due words old new file name job missing Usage line h = absurd (h.no_job _ _ job)
+missing_due words old new file name job missing (ReadFault Source) line h = refl
+missing_due words old new file name job missing (Longer role) line h =
+    absurd (longer-missing old.disk file source_limit (subst (λ (f : List ℕ). IsLonger old.disk f source_limit) (same_source job h.job) h.longer) missing)
+missing_due words old new file name job missing WriteFault line h = absurd h
+missing_due words old new file name job missing NoMemory line h = absurd h
+
+pub missing_where : (words : List (List ℕ)) (old new : StoreState) (out out' : SinkState) (result : Status)
+    → Answers words old new out out' result → (file name : List ℕ) → IsBuild words file name → IsMissing old.disk file
+    → (result ≡ ReadFault Source) ⊎ LineFails out out' result
+missing_where words old new out out' result h file name job missing =
+    where_due words old new out out' result (λ s. s ≡ ReadFault Source) (missing_due words old new file name job missing)
+    (λ w. compiles-missing words old file name w.name w.raw job missing w.compiles) h
+
+-- A source that is there, with these bytes.
+
+pub record Given (words : List (List ℕ)) (old : StoreState) (bytes : List ℕ) : Type 0 where
+  pub file : List ℕ
+  pub name : List ℕ
+  pub job : IsBuild words file name
+  pub there : HasFile old.disk file bytes
+
+given_bytes : (words : List (List ℕ)) (old : StoreState) (bytes file name other : List ℕ) → Given words old bytes → IsBuild words file name → IsFile old.disk file other → other ≡ bytes
+given_bytes words old bytes file name other given job h =
+    same_bytes old.disk given.file bytes other given.there (subst (λ (f : List ℕ). IsFile old.disk f other) (same_source given.job job) h)
+
+given_longer : (words : List (List ℕ)) (old : StoreState) (bytes file name : List ℕ) → Given words old bytes → IsBuild words file name → IsLonger old.disk file source_limit → source_limit < length bytes
+given_longer words old bytes file name given job h =
+    longer-there old.disk given.file bytes source_limit given.there (subst (λ (f : List ℕ). IsLonger old.disk f source_limit) (same_source given.job job) h)
+
+given_fault : (words : List (List ℕ)) (old new : StoreState) (bytes file name : List ℕ) → Given words old bytes → IsBuild words file name
+    → HasRisen old.reads new.reads ⊎ IsMissing old.disk file → HasRisen old.reads new.reads
+given_fault words old new bytes file name given job (inl risen) = risen
+given_fault words old new bytes file name given job (inr missing) =
+    absurd (file-there old.disk given.file bytes given.there (subst (IsMissing old.disk) (same_source given.job job) missing))
+
+given_compiles : (words : List (List ℕ)) (old : StoreState) (bytes name : List ℕ) (raw : RawNet) → Given words old bytes → (h : Compiles words old name raw) → h.bytes ≡ bytes
+given_compiles words old bytes name raw given h = given_bytes words old bytes h.file name h.bytes given h.job h.source
+
+-- a source over its limit
+
+longer_due : (words : List (List ℕ)) (old new : StoreState) (bytes : List ℕ) → Given words old bytes → source_limit < length bytes
+    → (due : Status) (line : List ℕ) → IsDue words old new due line → (due ≡ Longer Source) ⊎ LoadFails old new due
+longer_due words old new bytes given over Done line h =
+    let e = given_compiles words old bytes h.name h.raw given h.compiles in let w = rw e at h.compiles.within in absurd (omega arith)
+longer_due words old new bytes given over (Refused refusal) line h =
+    let e = given_bytes words old bytes h.file h.name h.bytes given h.job h.source in let w = rw e at h.within in absurd (omega arith)
+longer_due words old new bytes given over Usage line h = absurd (h.no_job _ _ given.job)
+longer_due words old new bytes given over (ReadFault role) line h = inr (given_fault words old new bytes h.file h.name given h.job h.cause)
+longer_due words old new bytes given over (Longer Source) line h = inl refl
+longer_due words old new bytes given over WriteFault line h = absurd h
+longer_due words old new bytes given over NoMemory line h = absurd h
+
+pub longer_where : (words : List (List ℕ)) (old new : StoreState) (out out' : SinkState) (result : Status)
+    → Answers words old new out out' result → (file name bytes : List ℕ) → IsBuild words file name → HasFile old.disk file bytes → source_limit < length bytes
+    → (result ≡ Longer Source) ⊎ LoadFails old new result ⊎ LineFails out out' result
+longer_where words old new out out' result h file name bytes job there over =
+    let given : Given words old bytes = record { file = file; name = name; job = job; there = there } in
+    split (where_due words old new out out' result (λ s. (s ≡ Longer Source) ⊎ LoadFails old new s) (longer_due words old new bytes given over)
+    (λ w. let e = given_compiles words old bytes w.name w.raw given w.compiles in let v = rw e at w.compiles.within in omega arith) h)
+
+-- a source that is refused
+
+no_core : (bytes : List ℕ) (core : Core) → first_form bytes ≡ None → Accepted bytes core → ⊥
+no_core bytes core none some = cc
+
+refused_due : (words : List (List ℕ)) (old new : StoreState) (bytes : List ℕ) → Given words old bytes → length bytes ≤ source_limit → first_form bytes ≡ None
+    → (due : Status) (line : List ℕ) → IsDue words old new due line → (due ≡ Refused not_built) ⊎ LoadFails old new due
+refused_due words old new bytes given within none Done line h =
+    absurd (no_core bytes h.compiles.core none (subst (λ (b : List ℕ). Accepted b h.compiles.core) (given_compiles words old bytes h.name h.raw given h.compiles) h.compiles.accepted))
+refused_due words old new bytes given within none (Refused refusal) line h = inl (ap Refused h.first.is)
+refused_due words old new bytes given within none Usage line h = absurd (h.no_job _ _ given.job)
+refused_due words old new bytes given within none (ReadFault role) line h = inr (given_fault words old new bytes h.file h.name given h.job h.cause)
+refused_due words old new bytes given within none (Longer role) line h =
+    let over = given_longer words old bytes h.file h.name given h.job h.longer in absurd (omega arith)
+refused_due words old new bytes given within none WriteFault line h = absurd h
+refused_due words old new bytes given within none NoMemory line h = absurd h
+
+pub refused_where : (words : List (List ℕ)) (old new : StoreState) (out out' : SinkState) (result : Status)
+    → Answers words old new out out' result → (file name bytes : List ℕ) → IsBuild words file name → HasFile old.disk file bytes → length bytes ≤ source_limit → first_form bytes ≡ None
+    → (result ≡ Refused not_built) ⊎ LoadFails old new result ⊎ LineFails out out' result
+refused_where words old new out out' result h file name bytes job there within none =
+    let given : Given words old bytes = record { file = file; name = name; job = job; there = there } in
+    split (where_due words old new out out' result (λ s. (s ≡ Refused not_built) ⊎ LoadFails old new s) (refused_due words old new bytes given within none)
+    (λ w. no_core bytes w.compiles.core none (subst (λ (b : List ℕ). Accepted b w.compiles.core) (given_compiles words old bytes w.name w.raw given w.compiles) w.compiles.accepted)) h)
+
+-- completeness
+
+done_due : (words : List (List ℕ)) (old new : StoreState) (bytes : List ℕ) (core : Core) → Given words old bytes → length bytes ≤ source_limit → Accepted bytes core
+    → (HasRisen old.reads new.reads → ⊥) → (due : Status) (line : List ℕ) → IsDue words old new due line → due ≡ Done
+done_due words old new bytes core given within some no_fault Done line h = refl
+done_due words old new bytes core given within some no_fault (Refused refusal) line h =
+    absurd (no_core h.bytes core h.first.no_core (subst (λ (b : List ℕ). Accepted b core) (sym (given_bytes words old bytes h.file h.name h.bytes given h.job h.source)) some))
+done_due words old new bytes core given within some no_fault Usage line h = absurd (h.no_job _ _ given.job)
+done_due words old new bytes core given within some no_fault (ReadFault role) line h = absurd (no_fault (given_fault words old new bytes h.file h.name given h.job h.cause))
+done_due words old new bytes core given within some no_fault (Longer role) line h =
+    let over = given_longer words old bytes h.file h.name given h.job h.longer in absurd (omega arith)
+done_due words old new bytes core given within some no_fault WriteFault line h = absurd h
+done_due words old new bytes core given within some no_fault NoMemory line h = absurd h
+
+pub completeness : (words : List (List ℕ)) (old new : StoreState) (out out' : SinkState) (result : Status)
+    → Answers words old new out out' result → (file name bytes : List ℕ) (core : Core) → IsBuild words file name → HasFile old.disk file bytes → length bytes ≤ source_limit → Accepted bytes core
+    → (HasRisen old.reads new.reads → ⊥) → (HasRisen old.writes new.writes → ⊥) → (HasRisen out.faults out'.faults → ⊥) → (result ≡ Done) ⊎ (result ≡ NoMemory)
+completeness words old new out out' result (told line known wrote) file name bytes core job there within some reads writes faults =
+    inl (done_due words old new bytes core (record { file = file; name = name; job = job; there = there }) within some reads result line known)
+completeness words old new out out' result (fault is h same) file name bytes core job there within some reads writes faults = absurd (writes h.cause)
+completeness words old new out out' result (no_memory is h same) file name bytes core job there within some reads writes faults = inr is
+completeness words old new out out' result (cut_by_fault is risen cut) file name bytes core job there within some reads writes faults = absurd (faults risen)
+completeness words old new out out' result (cut_by_memory is cut) file name bytes core job there within some reads writes faults = inr is
+
+-- The files.
+
+kept_due : (words : List (List ℕ)) (old new : StoreState) (due : Status) (line : List ℕ) → KeepsFiles due → IsDue words old new due line → SameFiles old new
+kept_due words old new Done line keeps h = absurd keeps
+kept_due words old new (Refused refusal) line keeps h = h.files
+kept_due words old new Usage line keeps h = rw h.store (SameFiles-none old)
+kept_due words old new (ReadFault role) line keeps h = h.files
+kept_due words old new (Longer role) line keeps h = h.files
+kept_due words old new WriteFault line keeps h = absurd keeps
+kept_due words old new NoMemory line keeps h = absurd keeps
+
+pub files_kept : (words : List (List ℕ)) (old new : StoreState) (out out' : SinkState) (result : Status) → Answers words old new out out' result → KeepsFiles result → SameFiles old new
+files_kept words old new out out' result (told line known wrote) keeps = kept_due words old new result line keeps known
+files_kept words old new out out' result (fault is h same) keeps = absurd (subst KeepsFiles is keeps)
+files_kept words old new out out' result (no_memory is h same) keeps = absurd (subst KeepsFiles is keeps)
+files_kept words old new out out' result (cut_by_fault is risen cut) keeps = absurd (subst KeepsFiles is keeps)
+files_kept words old new out out' result (cut_by_memory is cut) keeps = absurd (subst KeepsFiles is keeps)
+
+pub files_due : (words : List (List ℕ)) (old new : StoreState) (out out' : SinkState) (result : Status)
+    → Answers words old new out out' result → result ≡ WriteFault → (HasRisen old.writes new.writes → ⊥) → IsCutOff words old new out out'
+files_due words old new out out' result (told line known wrote) e none = absurd (subst (λ (s : Status). IsDue words old new s line) e known)
+files_due words old new out out' result (fault is h same) e none = absurd (none h.cause)
+files_due words old new out out' result (no_memory is h same) e none = absurd (cc)
+files_due words old new out out' result (cut_by_fault is risen cut) e none = cut
+files_due words old new out out' result (cut_by_memory is cut) e none = absurd (cc)
+
+closed_due : (words : List (List ℕ)) (old new : StoreState) (due : Status) (line : List ℕ) → old.is_open ≡ false → IsDue words old new due line → new.is_open ≡ false
+closed_due words old new Done line shut h = h.saves.is_open
+closed_due words old new (Refused refusal) line shut h = h.files.is_open ∙ shut
+closed_due words old new Usage line shut h = ap (λ (s : StoreState). s.is_open) h.store ∙ shut
+closed_due words old new (ReadFault role) line shut h = h.files.is_open ∙ shut
+closed_due words old new (Longer role) line shut h = h.files.is_open ∙ shut
+closed_due words old new WriteFault line shut h = absurd h
+closed_due words old new NoMemory line shut h = absurd h
+
+pub closed_after : (words : List (List ℕ)) (old new : StoreState) (out out' : SinkState) (result : Status)
+    → Answers words old new out out' result → old.is_open ≡ false → result ≢ WriteFault → result ≢ NoMemory → new.is_open ≡ false
+closed_after words old new out out' result (told line known wrote) shut a b = closed_due words old new result line shut known
+closed_after words old new out out' result (fault is h same) shut a b = absurd (a is)
+closed_after words old new out out' result (no_memory is h same) shut a b = absurd (b is)
+closed_after words old new out out' result (cut_by_fault is risen cut) shut a b = absurd (a is)
+closed_after words old new out out' result (cut_by_memory is cut) shut a b = absurd (b is)
+
+-- Sure stores and sinks.
+
+-- a count of a sure object doesn't rise
+sure_stands : (sure : Bool) (old new : ℕ) → sure ≡ true → IsCount sure old → Moves sure old new → HasRisen old new → ⊥
+sure_stands sure old new is_sure count moves risen =
+    let stands = moves.stands is_sure in let below = count.below is_sure in let up = risen (rw stands below) in omega arith
+
+pub sure_writes : (words : List (List ℕ)) (old new : StoreState) (out out' : SinkState) (result : Status)
+    → Answers words old new out out' result → IsCount old.sure old.writes → IsCount out.sure out.faults → MovesCounts old new
+    → old.sure ≡ true → out.sure ≡ true → result ≢ WriteFault
+sure_writes words old new out out' result h writes faults moves a b e =
+    elim (write_fault_of words old new out out' result h e) [
+      | inl w ↦ sure_stands old.sure old.writes new.writes a writes moves.writes w.0.cause
+      | inr w ↦ sure_stands out.sure out.faults out'.faults b faults w.0.front.wrote.faults w.1
+    ]
+
+pub sure_reads : (words : List (List ℕ)) (old new : StoreState) (out out' : SinkState) (result : Status)
+    → Answers words old new out out' result → IsCount old.sure old.reads → MovesCounts old new
+    → old.sure ≡ true → (role : Role) → result ≡ ReadFault role → (file name : List ℕ) → IsBuild words file name → IsMissing old.disk file
+sure_reads words old new out out' result h reads moves a role e file name job =
+    let p = told_of words old new out out' result (ReadFault role) (λ w. cc) (λ w. cc) h e in
+    elim p.fits.cause [
+      | inl risen ↦ absurd (sure_stands old.sure old.reads new.reads a reads moves.reads risen)
+      | inr missing ↦ subst (IsMissing old.disk) (same_source job p.fits.job) missing
+    ]

@@ -1,0 +1,12 @@
+use Rattle.std.proofs.Common.{arith}
+use Rattle.hc_run.proofs.Adding.{IsAdding-more}
+use Rattle.hc_run.specs.Edif.{port_id, port_ref}
+use Rattle.hc_run.specs.Pins.{ref_of}
+use Rattle.hc_run.proofs.Numbered.{range_map_more}
+use Rattle.hc_run.proofs.edif.drivers.add_bits.Goals as goal
+
+pub loop-bit-preserved : goal.loop-bit-preserved
+unfolding ref_of
+loop-bit-preserved c =
+    IsAdding-more _ _ c.loop-bit.invariant c.in_ok-add.ensures
+    (range_map_more (λ i. port_ref (port_id c.args.number i)) c.loop-bit.bit c.args.width (omega arith))

@@ -1,0 +1,203 @@
+-- What each answer of the top call says: of the words, of the source, of the files afterwards and of the line that is
+-- written. The answers and their causes are this project's own.
+use Rattle.std.specs.Prelude.{◌≡◌, ◌⊎◌, ◌≤◌, ◌++◌, ℕ, false, List, length, Option, Some, None, is_some}
+use Rattle.std.specs.Option.{option_map}
+use Rattle.std.specs.FinMap.{get, insert}
+use Rattle.hc_outside.specs.Count.{HasRisen, Moves}
+use Rattle.hc_outside.specs.Store.{Files, Disk, StoreState, IsFile, IsMissing, IsLonger, SameFiles, MovesReads}
+use Rattle.hc_outside.specs.Sink.{SinkState, Wrote, WroteFront}
+use Rattle.hc_core.specs.declared.refusal.Rule.TheVariants.{NotBuilt}
+use Rattle.hc_core.specs.declared.refusal.Detail.TheVariants.{Nothing}
+use Rattle.hc_core.specs.declared.refusal.Refusal.{Refusal}
+use Rattle.hc_core.specs.declared.object.Core.{Core}
+use Rattle.hc_net.specs.declared.net.RawNet.{RawNet}
+use Rattle.hc_net.specs.Valid.{IsValid}
+use Rattle.hc_run.specs.declared.status.Role.{Role}
+use Rattle.hc_run.specs.declared.status.Status.{Status}
+use Rattle.hc_run.specs.declared.status.Status.TheVariants.{Done, Refused, Usage, ReadFault, WriteFault, NoMemory, Longer}
+use Rattle.hc_run.specs.FirstForm.{first_form}
+use Rattle.hc_run.specs.Edif.{edif}
+use Rattle.hc_run.specs.Headline.{Implements}
+use Rattle.hc_run.specs.Words.{IsBuild, HasNoJob}
+use Rattle.hc_run.specs.Lines.{built_line, refusal_line, usage_line, read_fault_line, longer_line}
+
+-- how many bytes a source may have: 4 MiB
+abbrev pub source_limit : ℕ
+source_limit = 4194304
+
+-- The bytes are a source of this core.
+abbrev pub Accepted : List ℕ → Core → Type 0
+Accepted bytes core = first_form bytes ≡ Some core
+
+-- the refusal of what isn't built: it names the start of the source
+abbrev pub not_built : Refusal
+not_built = record { rule = NotBuilt; place = record { line = 1; column = 1 }; detail = Nothing }
+
+-- The bytes break a rule, and this refusal comes first.
+pub record First (bytes : List ℕ) (refusal : Refusal) : Type 0 where
+  pub no_core : first_form bytes ≡ None
+  pub is : refusal ≡ not_built
+
+-- The words name a job and its netlist file, the source is there within its limit, and the netlist does what it says.
+pub record Compiles (words : List (List ℕ)) (old : StoreState) (name : List ℕ) (raw : RawNet) : Type 0 where
+  pub file : List ℕ
+  pub job : IsBuild words file name
+  pub bytes : List ℕ
+  pub source : IsFile old.disk file bytes
+  pub within : length bytes ≤ source_limit
+  pub core : Core
+  pub accepted : Accepted bytes core
+  pub implements : Implements core raw
+  pub valid : IsValid raw
+
+-- a disk whose file of that name has these bytes, all other files being as before; none is open
+abbrev pub saved : List ℕ → List ℕ → Disk → Disk
+saved name bytes d = record { files = insert d.files name bytes; open_name = None }
+
+-- The file of that name has these bytes, all other files are as before, and none is open.
+pub record Saved (name bytes : List ℕ) (old new : StoreState) : Type 0 where
+  pub disk : new.disk ≡ option_map (saved name bytes) old.disk
+  pub is_open : new.is_open ≡ false
+
+-- the files, where they are told
+abbrev pub files_of : Option Disk → Option Files
+files_of disk = option_map (λ d. d.files) disk
+
+-- The file of that name has some front part of these bytes, and all other files are as before.
+pub record HoldsFront (name bytes : List ℕ) (old new : StoreState) : Type 0 where
+  pub front : List ℕ
+  pub back : List ℕ
+  pub parts : front ++ back ≡ bytes
+  pub files : files_of new.disk ≡ option_map (λ files. insert files name front) (files_of old.disk)
+
+-- Done: the netlist's text is saved under the name that the words give, and the line has the netlist's counts.
+pub record IsDone (words : List (List ℕ)) (old new : StoreState) (line : List ℕ) : Type 0 where
+  pub name : List ℕ
+  pub raw : RawNet
+  pub compiles : Compiles words old name raw
+  pub saves : Saved name (edif raw) old new
+  pub says : line ≡ built_line (length raw.cells) (length raw.flops)
+
+-- Refused: the source that the words name is there within its limit, this refusal is its first, and no file has changed.
+pub record IsRefused (words : List (List ℕ)) (old new : StoreState) (refusal : Refusal) (line : List ℕ) : Type 0 where
+  pub file : List ℕ
+  pub name : List ℕ
+  pub job : IsBuild words file name
+  pub bytes : List ℕ
+  pub source : IsFile old.disk file bytes
+  pub within : length bytes ≤ source_limit
+  pub first : First bytes refusal
+  pub files : SameFiles old new
+  pub counts : MovesReads old new
+  pub says : line ≡ refusal_line refusal
+
+-- Usage: the words have no job, and the store is as before.
+pub record IsUsage (words : List (List ℕ)) (old new : StoreState) (line : List ℕ) : Type 0 where
+  pub no_job : HasNoJob words
+  pub store : new ≡ old
+  pub says : line ≡ usage_line
+
+-- ReadFault: there was a fault of reading, or there is no source of that name. No file has changed.
+pub record IsReadFault (words : List (List ℕ)) (old new : StoreState) (role : Role) (line : List ℕ) : Type 0 where
+  pub file : List ℕ
+  pub name : List ℕ
+  pub job : IsBuild words file name
+  pub cause : HasRisen old.reads new.reads ⊎ IsMissing old.disk file
+  pub files : SameFiles old new
+  pub counts : MovesReads old new
+  pub says : line ≡ read_fault_line role
+
+-- Longer: the source is over its limit. No file has changed.
+pub record IsOverLimit (words : List (List ℕ)) (old new : StoreState) (role : Role) (line : List ℕ) : Type 0 where
+  pub file : List ℕ
+  pub name : List ℕ
+  pub job : IsBuild words file name
+  pub longer : IsLonger old.disk file source_limit
+  pub files : SameFiles old new
+  pub counts : MovesReads old new
+  pub says : line ≡ longer_line role
+
+-- WriteFault of the job: every check has passed, and there was a fault of writing. The netlist's file is as before or
+-- has a front part of its text, and all other files are as before.
+pub record IsWriteFault (words : List (List ℕ)) (old new : StoreState) : Type 0 where
+  pub name : List ℕ
+  pub raw : RawNet
+  pub compiles : Compiles words old name raw
+  pub cause : HasRisen old.writes new.writes
+  pub files : SameFiles old new ⊎ HoldsFront name (edif raw) old new
+
+-- every check has passed, and the netlist's file has a front part of its text; all other files are as before
+pub record IsCutShort (words : List (List ℕ)) (old new : StoreState) : Type 0 where
+  pub name : List ℕ
+  pub raw : RawNet
+  pub compiles : Compiles words old name raw
+  pub files : HoldsFront name (edif raw) old new
+
+-- NoMemory of the job: no file has changed, or the netlist's file is cut short.
+abbrev pub IsNoMemory : List (List ℕ) → StoreState → StoreState → Type 0
+IsNoMemory words old new = SameFiles old new ⊎ IsCutShort words old new
+
+-- This status is due, with this line.
+abbrev pub IsDue : List (List ℕ) → StoreState → StoreState → Status → List ℕ → Type 0
+IsDue words old new Done line = IsDone words old new line
+IsDue words old new (Refused refusal) line = IsRefused words old new refusal line
+IsDue words old new Usage line = IsUsage words old new line
+IsDue words old new (ReadFault role) line = IsReadFault words old new role line
+IsDue words old new (Longer role) line = IsOverLimit words old new role line
+IsDue words old new WriteFault line = ⊥
+IsDue words old new NoMemory line = ⊥
+
+-- A line was written, and this is what it stands for.
+pub record Prints (means : List ℕ → Type 0) (old new : SinkState) : Type 0 where
+  pub line : List ℕ
+  pub fits : means line
+  pub wrote : Wrote line old new
+
+-- Some status was due, and only a front part of its line was written.
+pub record IsCutOff (words : List (List ℕ)) (old new : StoreState) (out out' : SinkState) : Type 0 where
+  pub due : Status
+  pub line : List ℕ
+  pub is_due : IsDue words old new due line
+  pub front : WroteFront line out out'
+
+-- whether the files are told and whether the store is sure stay, and the counts don't fall
+pub record MovesCounts (old new : StoreState) : Type 0 where
+  pub told : is_some new.disk ≡ is_some old.disk
+  pub sure : new.sure ≡ old.sure
+  pub reads : Moves old.sure old.reads new.reads
+  pub writes : Moves old.sure old.writes new.writes
+
+-- the files are told, and the file of that name has these bytes
+abbrev pub HasFile : Option Disk → List ℕ → List ℕ → Type 0
+HasFile None name bytes = ⊥
+HasFile (Some d) name bytes = get d.files name ≡ Some bytes
+
+-- the answer for want of memory, or for a fault of writing the line
+abbrev pub LineFails : SinkState → SinkState → Status → Type 0
+LineFails out out' WriteFault = HasRisen out.faults out'.faults
+LineFails out out' NoMemory = Unit {0}
+LineFails out out' Done = ⊥
+LineFails out out' (Refused refusal) = ⊥
+LineFails out out' Usage = ⊥
+LineFails out out' (ReadFault role) = ⊥
+LineFails out out' (Longer role) = ⊥
+
+-- the answer for a fault of reading
+abbrev pub LoadFails : StoreState → StoreState → Status → Type 0
+LoadFails old new (ReadFault role) = HasRisen old.reads new.reads
+LoadFails old new Done = ⊥
+LoadFails old new (Refused refusal) = ⊥
+LoadFails old new Usage = ⊥
+LoadFails old new WriteFault = ⊥
+LoadFails old new NoMemory = ⊥
+LoadFails old new (Longer role) = ⊥
+
+-- a status after which every file is as before
+abbrev pub KeepsFiles : Status → Type 0
+KeepsFiles (Refused refusal) = Unit {0}
+KeepsFiles Usage = Unit {0}
+KeepsFiles (ReadFault role) = Unit {0}
+KeepsFiles (Longer role) = Unit {0}
+KeepsFiles Done = ⊥
+KeepsFiles WriteFault = ⊥
+KeepsFiles NoMemory = ⊥

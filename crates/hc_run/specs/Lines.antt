@@ -1,0 +1,41 @@
+-- The lines that the top call writes, each with its line feed. Their form is this project's own.
+use Rattle.std.specs.Prelude.{ℕ, List, [], ◌++◌, codes, decimal}
+use Rattle.hc_core.specs.declared.refusal.Rule.{Rule}
+use Rattle.hc_core.specs.declared.refusal.Rule.TheVariants.{NotBuilt}
+use Rattle.hc_core.specs.declared.refusal.Detail.{Detail}
+use Rattle.hc_core.specs.declared.refusal.Detail.TheVariants.{Nothing}
+use Rattle.hc_core.specs.declared.refusal.Refusal.{Refusal}
+use Rattle.hc_run.specs.declared.status.Role.{Role}
+use Rattle.hc_run.specs.declared.status.Role.TheVariants.{Source}
+
+-- what was built, with the numbers of gates and flip-flops
+unfoldable pub built_line : ℕ → ℕ → List ℕ
+built_line gates flops = codes "built: gates " ++ decimal gates ++ codes ", flip-flops " ++ decimal flops ++ codes ", rams 0\n"
+
+-- the name of a rule
+unfoldable pub rule_name : Rule → List ℕ
+rule_name NotBuilt = codes "NotBuilt"
+
+-- what a refusal says after its place
+unfoldable pub detail_text : Detail → List ℕ
+detail_text Nothing = []
+
+-- a refusal: its rule, its place and its detail
+unfoldable pub refusal_line : Refusal → List ℕ
+refusal_line r = codes "refused " ++ rule_name r.rule ++ codes " at " ++ decimal r.place.line ++ codes ":" ++ decimal r.place.column ++ detail_text r.detail ++ codes "\n"
+
+-- the words of every job
+unfoldable pub usage_line : List ℕ
+usage_line = codes "usage: hcc build FILE [--edif FILE] [--verilog FILE] | check FILE | sim FILE --stim FILE --trace FILE | nsim FILE --stim FILE --trace FILE | compare FILE --net FILE --stim FILE | gen N | cells\n"
+
+-- the name of a file of a job
+unfoldable pub role_name : Role → List ℕ
+role_name Source = codes "source"
+
+-- a file that couldn't be read
+unfoldable pub read_fault_line : Role → List ℕ
+read_fault_line role = codes "read fault: " ++ role_name role ++ codes "\n"
+
+-- a file that is over its limit
+unfoldable pub longer_line : Role → List ℕ
+longer_line role = codes "too long: " ++ role_name role ++ codes "\n"

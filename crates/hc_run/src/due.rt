@@ -1,0 +1,133 @@
+ghost use Rattle.std.specs.Prelude.{◌≡◌, IfOk};
+ghost use Rattle.hc_run.specs.Steps.{status_of, text_of};
+ghost use Rattle.hc_run.specs.Lines.{built_line, refusal_line, read_fault_line, longer_line, usage_line, rule_name, role_name, detail_text};
+
+use crate::status::{Role, Status};
+use hc_core::{Detail, Refusal, Rule};
+use itoa::Buffer;
+use std::alloc::{AllocError, Global};
+
+/// How a job ended, before its line is written.
+#[derive(Drop)]
+pub(crate) enum Due {
+    /// A netlist with so many gates and flip-flops was saved.
+    Built { gates: usize, flops: usize },
+    Refused(Refusal),
+    Usage,
+    ReadFault(Role),
+    Longer(Role),
+}
+
+impl Due {
+    /// The status of this end.
+    pub(crate) fn status(self) -> Status
+        ensures { result ≡ status_of self }
+    {
+        match self {
+            Due::Built { .. } => Status::Done,
+            Due::Refused(refusal) => Status::Refused(refusal),
+            Due::Usage => Status::Usage,
+            Due::ReadFault(role) => Status::ReadFault(role),
+            Due::Longer(role) => Status::Longer(role),
+        }
+    }
+
+    /// The line that says it.
+    pub(crate) fn line(&self, alloc: Global) -> Result<Vec<u8>, AllocError>
+        ensures { IfOk result (λ line. line.items ≡ text_of self.now) }
+    {
+        match self {
+            Due::Built { gates, flops } => built(alloc, *gates, *flops),
+            Due::Refused(refusal) => refused(alloc, refusal),
+            Due::Usage => usage(alloc),
+            Due::ReadFault(role) => read_fault(alloc, *role),
+            Due::Longer(role) => longer(alloc, *role),
+        }
+    }
+}
+
+#[tactic(auto, unfolding(crate::specs::Lines::built_line))]
+fn built(alloc: Global, gates: usize, flops: usize) -> Result<Vec<u8>, AllocError>
+    ensures { IfOk result (λ line. line.items ≡ built_line gates flops) }
+{
+    let mut digits = Buffer::new();
+    let mut line = Vec::from_slice(alloc, b"built: gates ")?;
+    line.extend_from_slice(digits.format(gates).as_bytes())?;
+    line.extend_from_slice(b", flip-flops ")?;
+    line.extend_from_slice(digits.format(flops).as_bytes())?;
+    line.extend_from_slice(b", rams 0\n")?;
+    Ok(line)
+}
+
+#[tactic(auto, unfolding(crate::specs::Lines::refusal_line))]
+fn refused(alloc: Global, refusal: &Refusal) -> Result<Vec<u8>, AllocError>
+    ensures { IfOk result (λ line. line.items ≡ refusal_line refusal.now) }
+{
+    let mut digits = Buffer::new();
+    let mut line = Vec::from_slice(alloc, b"refused ")?;
+    line.extend_from_slice(name_of(refusal.rule))?;
+    line.extend_from_slice(b" at ")?;
+    line.extend_from_slice(digits.format(refusal.place.line).as_bytes())?;
+    line.extend_from_slice(b":")?;
+    line.extend_from_slice(digits.format(refusal.place.column).as_bytes())?;
+    line.extend_from_slice(text_after(&refusal.detail))?;
+    line.extend_from_slice(b"\n")?;
+    Ok(line)
+}
+
+#[tactic(auto, unfolding(crate::specs::Lines::rule_name))]
+fn name_of(rule: Rule) -> &'static [u8]
+    ensures { result.now ≡ rule_name rule }
+{
+    match rule {
+        Rule::NotBuilt => b"NotBuilt",
+    }
+}
+
+#[tactic(auto, unfolding(crate::specs::Lines::detail_text))]
+fn text_after(detail: &Detail) -> &'static [u8]
+    ensures { result.now ≡ detail_text detail.now }
+{
+    match detail {
+        Detail::Nothing => b"",
+    }
+}
+
+#[tactic(auto, unfolding(crate::specs::Lines::usage_line))]
+fn usage(alloc: Global) -> Result<Vec<u8>, AllocError>
+    ensures { IfOk result (λ line. line.items ≡ usage_line) }
+{
+    Vec::from_slice(
+        alloc,
+        b"usage: hcc build FILE [--edif FILE] [--verilog FILE] | check FILE | sim FILE --stim FILE --trace FILE | nsim FILE --stim FILE --trace FILE | compare FILE --net FILE --stim FILE | gen N | cells\n",
+    )
+}
+
+#[tactic(auto, unfolding(crate::specs::Lines::read_fault_line))]
+fn read_fault(alloc: Global, role: Role) -> Result<Vec<u8>, AllocError>
+    ensures { IfOk result (λ line. line.items ≡ read_fault_line role) }
+{
+    let mut line = Vec::from_slice(alloc, b"read fault: ")?;
+    line.extend_from_slice(role_of(role))?;
+    line.extend_from_slice(b"\n")?;
+    Ok(line)
+}
+
+#[tactic(auto, unfolding(crate::specs::Lines::longer_line))]
+fn longer(alloc: Global, role: Role) -> Result<Vec<u8>, AllocError>
+    ensures { IfOk result (λ line. line.items ≡ longer_line role) }
+{
+    let mut line = Vec::from_slice(alloc, b"too long: ")?;
+    line.extend_from_slice(role_of(role))?;
+    line.extend_from_slice(b"\n")?;
+    Ok(line)
+}
+
+#[tactic(auto, unfolding(crate::specs::Lines::role_name))]
+fn role_of(role: Role) -> &'static [u8]
+    ensures { result.now ≡ role_name role }
+{
+    match role {
+        Role::Source => b"source",
+    }
+}

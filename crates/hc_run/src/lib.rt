@@ -1,0 +1,15 @@
+//! The jobs of `hcc`, and the top call.
+#![tactic(auto)]
+
+mod build_job;
+mod circuits;
+mod due;
+mod edif;
+mod reader;
+mod status;
+mod text;
+mod top;
+mod words;
+
+pub use status::{Role, Status};
+pub use top::hcc;

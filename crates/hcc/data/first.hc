@@ -1,0 +1,3 @@
+set clock = external "clk";
+unsigned 4 x;
+void main(void) { x = 5; delay; x = x + 1; }
