@@ -1,17 +1,12 @@
 -- The circuit of one action.
-use Rattle.std.proofs.Common.{◌≡◌, ◌≢◌, ◌<◌, ◌≤◌, ℕ, zero, suc, ◌+◌, ◌*◌, ◌^◌, List, [], ◌∷◌, ◌++◌, length, map, get_or, set, Bool, true, false, Option, Some, None, refl, sym, ap, ◌∙◌, subst, ⊎_elim, arith, get_or-set_same, get_or-set_other, length-set}
-use Rattle.std.specs.Prelude.{if◌then◌else◌, slice_set, slice_index, slice_index_or, slice_get, All}
+use Rattle.std.proofs.Common.{◌≡◌, ◌≢◌, ◌<◌, ◌≤◌, ℕ, ◌+◌, ◌*◌, ◌^◌, List, [], ◌∷◌, length, map, get_or, Bool, true, false, refl, sym, ap, ◌∙◌, ⊎_elim, arith, get_or-set_same, get_or-set_other, length-set}
+use Rattle.std.specs.Prelude.{slice_set, slice_index, All}
 use Rattle.std.proofs.lemmas.Bool.Decides.{eqb_tells}
 use Rattle.std.proofs.lemmas.List.{length-map, get_or-map}
 use Rattle.std.proofs.lemmas.Option.{slice_get_within}
-use Rattle.hc_core.specs.Number.{Number}
-use Rattle.hc_core.specs.Program.{Expression, Statement, Assign, Delay}
-use Rattle.hc_core.specs.Clock.{Store, World, val, words, with_word, after}
-use Rattle.hc_core.specs.Straight.{acted}
+use Rattle.hc_core.specs.Program.{Expression, Assign, Delay}
+use Rattle.hc_core.specs.Clock.{Store, words, with_word}
 use Rattle.hc_core.specs.Run.{kinds_of}
-use Rattle.hc_core.specs.Sound.{IsSound, IsTyped, Typed}
-use Rattle.hc_core.specs.declared.object.Kind.{Kind}
-use Rattle.hc_core.specs.declared.object.Kind.TheVariants as kind
 use Rattle.hc_core.specs.declared.object.Core.{Core}
 use Rattle.hc_core.specs.Read.{expression, statement}
 use Rattle.hc_core.specs.declared.expr.Expr.{Expr}
@@ -21,10 +16,9 @@ use Rattle.hc_core.specs.declared.stmt.Stmt.TheVariants as s
 use Rattle.hc_core.specs.declared.stmt.Target.{Target}
 use Rattle.hc_core.specs.declared.stmt.Target.TheVariants.{Reg}
 use Rattle.hc_net.specs.Bits.{number}
-use Rattle.hc_net.specs.Run.{Trace}
-use Rattle.hc_net.specs.Circuit.{Circuit, History, Explains}
-use Rattle.hc_run.specs.Grown.{AddsGates, Computes, Anything, choice_on}
-use Rattle.hc_run.specs.Objects.{AreNets, HasConstants, store_on, value_on, width_in, sums, CanCompute, ComputesValue}
+use Rattle.hc_net.specs.Circuit.{Circuit}
+use Rattle.hc_run.specs.Grown.{Computes, Anything, choice_on}
+use Rattle.hc_run.specs.Objects.{store_on, value_on, sums, CanCompute, ComputesValue}
 use Rattle.hc_run.specs.Action.{number_at, AreNext, CanAct, Acts}
 use Rattle.hc_run.specs.declared.circuits.value.ObjectNets.{ObjectNets}
 use Rattle.hc_run.proofs.Grown.{AddsGates-none, AddsGates-more, AddsGates-length}

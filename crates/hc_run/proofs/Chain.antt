@@ -1,32 +1,29 @@
 -- The chain of tokens, action by action.
-use Rattle.std.proofs.Common.{◌≡◌, ◌≢◌, ◌<◌, ◌≤◌, ℕ, zero, suc, ◌+◌, ◌*◌, ◌^◌, List, [], ◌∷◌, ◌++◌, length, map, get_or, take, Bool, true, false, Option, Some, None, refl, sym, ap, ◌∙◌, subst, ⊎_elim, arith, add-one}
-use Rattle.std.specs.Prelude.{◌==◌, slice_get, slice_index, slice_index_or, All}
+use Rattle.std.proofs.Common.{◌≡◌, ◌≢◌, ◌<◌, ◌≤◌, ℕ, zero, suc, ◌+◌, ◌*◌, ◌^◌, List, [], ◌∷◌, ◌++◌, length, map, get_or, take, true, false, Option, Some, None, refl, sym, ap, ◌∙◌, subst, ⊎_elim, arith, add-one}
+use Rattle.std.specs.Prelude.{◌==◌, slice_get, slice_index}
 use Rattle.std.proofs.lemmas.Bool.{ne_eqb}
 use Rattle.std.proofs.lemmas.Bool.Decides.{eqb_tells}
 use Rattle.std.proofs.lemmas.List.FromFn.{map-range_with_len_more}
-use Rattle.std.proofs.lemmas.List.{length-map, length-take-le}
-use Rattle.std.proofs.lemmas.Option.{slice_get-get_or, slice_get_past, slice_get-map}
+use Rattle.std.proofs.lemmas.Option.{slice_get-get_or, slice_get-map}
 use Rattle.std.specs.Option.{option_map}
-use Rattle.std.specs.List.{range_with_len}
-use Rattle.hc_core.specs.Program.{Expression, Constant, Register, Binary, Statement, Skip, Assign, Delay, Then}
+use Rattle.hc_core.specs.Program.{Expression, Constant, Register, Binary, Statement}
 use Rattle.hc_core.specs.Read.{expression, statement}
 use Rattle.hc_core.specs.Clock.{words}
 use Rattle.hc_core.specs.Straight.{acted}
 use Rattle.hc_core.specs.Run.{kinds_of}
-use Rattle.hc_core.specs.Sound.{IsSound, IsTyped}
+use Rattle.hc_core.specs.Sound.{IsTyped}
 use Rattle.hc_core.specs.declared.object.Core.{Core}
 use Rattle.hc_core.specs.declared.stmt.Stmt.{Stmt}
 use Rattle.hc_core.specs.declared.stmt.Stmt.TheVariants as s
 use Rattle.hc_net.specs.Run.{Trace}
 use Rattle.hc_net.specs.Circuit.{Circuit, History, Explains}
 use Rattle.hc_net.specs.declared.gate.GateKind.TheVariants.{Zero, One}
-use Rattle.hc_net.specs.declared.net.FlopName.{FlopName}
 use Rattle.hc_net.specs.declared.net.FlopName.TheVariants.{Token}
 use Rattle.hc_run.specs.FirstForm.{IsSimple, IsAction}
-use Rattle.hc_run.specs.Grown.{AddsGates, MakesGate}
-use Rattle.hc_run.specs.Machine.{Adds, MakesToken, tokens}
-use Rattle.hc_run.specs.Objects.{AreNets, HasConstants, store_on, sums, IsBrief}
-use Rattle.hc_run.specs.Action.{AreNext, number_at, CanAct, Acts}
+use Rattle.hc_run.specs.Grown.{MakesGate}
+use Rattle.hc_run.specs.Machine.{MakesToken, tokens}
+use Rattle.hc_run.specs.Objects.{store_on, sums, IsBrief}
+use Rattle.hc_run.specs.Action.{number_at, CanAct, Acts}
 use Rattle.hc_run.specs.Progress.{Progress, CanChain}
 use Rattle.hc_run.specs.declared.circuits.value.ObjectNets.{ObjectNets}
 use Rattle.hc_run.proofs.Grown.{AddsGates-more, AddsGates-length}

@@ -1,7 +1,7 @@
 -- A choice of two numbers, bit by bit.
-use Rattle.std.proofs.Common.{◌≡◌, ◌<◌, ◌≤◌, ℕ, zero, suc, ◌+◌, ◌-◌, ◌*◌, List, [], ◌∷◌, ◌++◌, length, map, get_or, take, Bool, true, false, cond, not, ◌&&◌, ◌||◌, refl, sym, ap, ◌∙◌, subst, arith, length-append}
+use Rattle.std.proofs.Common.{◌≡◌, ◌<◌, ℕ, ◌+◌, ◌*◌, List, [], ◌∷◌, ◌++◌, length, map, get_or, take, Bool, true, false, not, ◌&&◌, ◌||◌, refl, sym, ap, ◌∙◌, subst, arith, length-append}
 use Rattle.std.specs.Prelude.{if◌then◌else◌, All}
-use Rattle.std.proofs.lemmas.List.{map_more, map-append, length-map}
+use Rattle.std.proofs.lemmas.List.{map_more, map-append}
 use Rattle.std.proofs.lemmas.List.Elements.{All-push, All-nil}
 use Rattle.std.proofs.Math.Seq.{take-length}
 use Rattle.hc_net.specs.Bits.{number}
@@ -9,7 +9,7 @@ use Rattle.hc_net.specs.Run.{Trace}
 use Rattle.hc_net.specs.Circuit.{Circuit, History, Explains}
 use Rattle.hc_net.specs.declared.gate.GateKind.TheVariants.{Not, And, Or}
 use Rattle.hc_run.specs.Grown.{AddsGates, MakesGate, MakesChoice, Computes, Anything, choice_on}
-use Rattle.hc_run.proofs.Grown.{AddsGates-none, AddsGates-more, AddsGates-length}
+use Rattle.hc_run.proofs.Grown.{AddsGates-more, AddsGates-length}
 
 pick : (c n x y taken kept bit : Bool) → n ≡ not c → taken ≡ (c && x) → kept ≡ (n && y) → bit ≡ (taken || kept) → bit ≡ (if c then x else y)
 pick c n x y taken kept bit en et ek eb = rw (eb, et, ek, en) (table c x y)

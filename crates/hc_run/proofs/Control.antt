@@ -1,16 +1,15 @@
 -- What circuits add to a builder, flip-flops among it.
-use Rattle.std.proofs.Common.{◌≡◌, ◌<◌, ◌≤◌, ℕ, zero, suc, ◌+◌, ◌*◌, List, [], ◌∷◌, ◌++◌, length, get_or, set, Bool, true, false, Option, Some, None, refl, sym, ap, ◌∙◌, subst, arith, append_assoc, length-append}
-use Rattle.std.specs.Prelude.{slice_set, slice_index_or}
-use Rattle.std.proofs.lemmas.List.{append-nil}
+use Rattle.std.proofs.Common.{◌≡◌, ◌≤◌, ℕ, suc, ◌+◌, List, [], ◌∷◌, ◌++◌, length, Bool, Some, None, refl, sym, ap, ◌∙◌, arith, append_assoc, length-append}
+use Rattle.std.specs.Prelude.{slice_set}
 use Rattle.std.proofs.Math.Seq.{set-append_seam, get_or-append_seam}
 use Rattle.hc_net.specs.Run.{Trace}
 use Rattle.hc_net.specs.Circuit.{Circuit, History, Explains, Extends, with_node, with_node_at, node_at, reading, flops_of}
 use Rattle.hc_net.specs.declared.net.FlopName.{FlopName}
-use Rattle.hc_net.specs.declared.net.FlopName.TheVariants.{Bit, Token}
+use Rattle.hc_net.specs.declared.net.FlopName.TheVariants.{Token}
 use Rattle.hc_net.specs.declared.node.Node.{Node}
 use Rattle.hc_net.specs.declared.node.Node.TheVariants.{Input, Flop, Wire, Gate}
-use Rattle.hc_run.specs.Grown.{IsGate, AreGates, AddsGates}
-use Rattle.hc_run.specs.Machine.{IsDone, AreDone, Adds, MakesToken}
+use Rattle.hc_run.specs.Grown.{AreGates, AddsGates}
+use Rattle.hc_run.specs.Machine.{AreDone, Adds, MakesToken}
 
 flops_of-append : (a b : List Node) → flops_of (a ++ b) ≡ flops_of a ++ flops_of b
 flops_of-append [] b = refl

@@ -1,5 +1,5 @@
 -- What circuits add, one after the other.
-use Rattle.std.proofs.Common.{◌≡◌, ◌<◌, ◌≤◌, ℕ, ◌+◌, ◌*◌, List, [], ◌∷◌, ◌++◌, length, Bool, true, false, ◌&&◌, ◌||◌, refl, sym, ap, ◌∙◌, arith, append_assoc, length-append}
+use Rattle.std.proofs.Common.{◌≡◌, ◌≤◌, ℕ, ◌+◌, ◌*◌, List, [], ◌∷◌, ◌++◌, length, Bool, true, false, ◌&&◌, ◌||◌, refl, sym, ap, ◌∙◌, arith, append_assoc, length-append}
 use Rattle.std.proofs.lemmas.List.{append-nil}
 use Rattle.hc_net.specs.Gate.{gate_bit, differ}
 use Rattle.hc_net.specs.Run.{Trace}
@@ -7,8 +7,8 @@ use Rattle.hc_net.specs.Circuit.{Circuit, History, Explains, Extends, with_node}
 use Rattle.hc_net.specs.declared.gate.GateKind.{GateKind}
 use Rattle.hc_net.specs.declared.gate.GateKind.TheVariants.{Xor, And, Or}
 use Rattle.hc_net.specs.declared.node.Node.{Node}
-use Rattle.hc_net.specs.declared.node.Node.TheVariants.{Input, Flop, Wire, Gate}
-use Rattle.hc_run.specs.Grown.{IsGate, AreGates, AddsGates, MakesGate, of_bit, MakesSum}
+use Rattle.hc_net.specs.declared.node.Node.TheVariants.{Gate}
+use Rattle.hc_run.specs.Grown.{AreGates, AddsGates, MakesGate, of_bit, MakesSum}
 
 are_gates-append : (a b : List Node) → AreGates a → AreGates b → AreGates (a ++ b)
 are_gates-append [] b ga gb = gb

@@ -1,42 +1,41 @@
 -- The netlist of a first-form core does what the core does.
-use Rattle.std.proofs.Common.{◌≡◌, ◌≢◌, ◌<◌, ◌≤◌, ℕ, zero, suc, ◌+◌, ◌-◌, ◌*◌, ◌^◌, List, [], ◌∷◌, ◌++◌, length, map, get_or, take, Bool, true, false, Option, Some, None, refl, sym, ap, ◌∙◌, subst, ⊎_elim, arith, length-append}
-use Rattle.std.specs.Prelude.{slice_get, slice_index, slice_index_or, All, nat_lt}
+use Rattle.std.proofs.Common.{◌≡◌, ◌<◌, ◌≤◌, ℕ, zero, suc, ◌+◌, ◌*◌, ◌^◌, List, [], ◌∷◌, ◌++◌, length, map, Bool, false, Option, Some, None, sym, ap, ◌∙◌, subst, ⊎_elim, arith}
+use Rattle.std.specs.Prelude.{slice_get, slice_index, slice_index_or, All}
 use Rattle.std.specs.List.{flat_map, range_with_len}
-use Rattle.std.specs.Option.{option_map}
 use Rattle.std.proofs.lemmas.Bool.{cases_lt}
 use Rattle.std.proofs.lemmas.List.{get_or-map, length-map, take_all}
-use Rattle.std.proofs.lemmas.List.FromFn.{length-range_with_len, get_or-range_with_len}
-use Rattle.std.proofs.lemmas.Option.{slice_get-get_or, slice_get_within, get_or_from_slice_get, slice_get-map}
+use Rattle.std.proofs.lemmas.List.FromFn.{length-range_with_len}
+use Rattle.std.proofs.lemmas.Option.{slice_get-get_or, slice_get_within, get_or_from_slice_get}
 use Rattle.hc_core.specs.Number.{Number}
 use Rattle.hc_core.specs.Program.{Statement}
 use Rattle.hc_core.specs.Read.{statement}
-use Rattle.hc_core.specs.Clock.{Store, words, first_words, initial}
+use Rattle.hc_core.specs.Clock.{Store, words, initial}
 use Rattle.hc_core.specs.Straight.{actions, acted, store_at}
 use Rattle.hc_core.specs.Run.{Run, kinds_of}
-use Rattle.hc_core.specs.Sound.{IsKind, IsSound, IsTyped}
+use Rattle.hc_core.specs.Sound.{IsKind, IsSound}
 use Rattle.hc_core.specs.declared.object.Kind.{Kind}
 use Rattle.hc_core.specs.declared.object.Kind.TheVariants.{Reg}
 use Rattle.hc_core.specs.declared.object.Object.{Object}
 use Rattle.hc_core.specs.declared.object.Core.{Core}
 use Rattle.hc_core.specs.declared.stmt.Stmt.{Stmt}
 use Rattle.hc_net.specs.Bits.{bit, number}
-use Rattle.hc_net.specs.Run.{Trace, HoldsBit, net_bit, values_at, state_at, outputs_at, output_numbers}
+use Rattle.hc_net.specs.Run.{Trace, HoldsBit, net_bit, values_at, state_at, output_numbers}
 use Rattle.hc_net.specs.Circuit.{Circuit, History, Explains, Does, node_at, reading, flops_of, IsUnfed}
 use Rattle.hc_net.specs.Seal.{IsSealable, Seals, placed}
 use Rattle.hc_net.specs.declared.net.Port.{Port}
 use Rattle.hc_net.specs.declared.net.FlopName.{FlopName}
-use Rattle.hc_net.specs.declared.net.FlopName.TheVariants.{Bit, Token}
+use Rattle.hc_net.specs.declared.net.FlopName.TheVariants.{Bit}
 use Rattle.hc_net.specs.declared.net.RawNet.{RawNet}
 use Rattle.hc_net.specs.declared.node.Node.{Node}
 use Rattle.hc_net.specs.declared.node.Node.TheVariants.{Input, Flop, Wire, Gate}
-use Rattle.hc_run.specs.Headline.{Same, SamePorts, Implements, shape_of, shapes_of}
-use Rattle.hc_run.specs.Machine.{width_of, registers_from, nets_from, tokens, IsDone, AreDone, Adds, MakesRegisters, Feeds, with_nodes}
+use Rattle.hc_run.specs.Headline.{Implements, shape_of}
+use Rattle.hc_run.specs.Machine.{registers_from, nets_from, tokens, IsDone, AreDone, Feeds}
 use Rattle.hc_run.specs.Objects.{store_on}
-use Rattle.hc_run.specs.Action.{number_at, AreNext}
+use Rattle.hc_run.specs.Action.{number_at}
 use Rattle.hc_run.specs.Progress.{Progress}
 use Rattle.hc_run.specs.declared.circuits.value.ObjectNets.{ObjectNets}
 use Rattle.hc_run.proofs.Bits.{number-bits, bit-number}
-use Rattle.hc_run.proofs.Names.{flops_of-append, distinct_names, registers_unfed, register_at, nets_flat, few_registers}
+use Rattle.hc_run.proofs.Names.{flops_of-append, distinct_names, registers_unfed, register_at, nets_flat}
 use Rattle.hc_run.proofs.Control.{Adds-length}
 use Rattle.hc_run.proofs.Actions.{word_at}
 use Rattle.hc_run.proofs.Stores.{AreRegisters, same_store, registers_on, registers_initial, registers_acted, flat_lengths, flat_below, parts_equal, map_range, map_index, initial_word}

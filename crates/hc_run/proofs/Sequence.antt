@@ -1,10 +1,10 @@
 -- The actions of a sequence of actions.
-use Rattle.std.proofs.Common.{◌≡◌, ◌<◌, ℕ, zero, suc, ◌+◌, List, [], ◌∷◌, ◌++◌, map, length, get_or, arith, refl, sym, ap, ◌∙◌, subst, append_assoc}
+use Rattle.std.proofs.Common.{◌≡◌, ◌<◌, ℕ, suc, List, [], ◌∷◌, ◌++◌, map, length, get_or, arith, refl, sym, ap, ◌∙◌, subst, append_assoc}
 use Rattle.std.specs.Prelude.{All}
 use Rattle.std.specs.List.{flat_map}
 use Rattle.std.proofs.lemmas.List.Elements.{All-nil, All-cons}
 use Rattle.std.proofs.lemmas.List.{append-nil}
-use Rattle.hc_core.specs.Program.{Statement, Skip, Assign, Delay, Then}
+use Rattle.hc_core.specs.Program.{Statement, Then}
 use Rattle.hc_core.specs.Read.{statement, whole, followed}
 use Rattle.hc_core.specs.Straight.{actions}
 use Rattle.hc_core.specs.Sound.{IsTyped}

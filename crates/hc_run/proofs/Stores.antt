@@ -1,24 +1,22 @@
 -- What registers hold, on nets and in the run.
-use Rattle.std.proofs.Common.{◌≡◌, ◌≢◌, ◌<◌, ◌≤◌, ℕ, zero, suc, ◌+◌, ◌*◌, ◌^◌, List, [], ◌∷◌, ◌++◌, length, map, get_or, set, Bool, true, false, Option, Some, None, refl, sym, ap, ◌∙◌, subst, ⊎_elim, arith, get_or-set_same, get_or-set_other, length-set, length-append}
-use Rattle.std.specs.Prelude.{slice_get, slice_index, slice_index_or, slice_set, All}
+use Rattle.std.proofs.Common.{◌≡◌, ◌<◌, ℕ, zero, suc, ◌+◌, List, [], ◌∷◌, ◌++◌, length, map, get_or, Bool, false, Option, Some, None, refl, sym, ap, ◌∙◌, ⊎_elim, arith, get_or-set_same, get_or-set_other, length-set, length-append}
+use Rattle.std.specs.Prelude.{slice_get, slice_index, slice_set, All}
 use Rattle.std.specs.List.{flat_map, range_with_len}
-use Rattle.std.specs.Option.{option_map}
 use Rattle.std.proofs.lemmas.Bool.Decides.{eqb_tells}
 use Rattle.std.proofs.lemmas.List.{ext_get_or, get_or-map, length-map, map-append}
-use Rattle.std.proofs.lemmas.List.FromFn.{length-range_with_len, length-map-range_with_len, get_or-range_with_len, get_or-map-range_with_len}
+use Rattle.std.proofs.lemmas.List.FromFn.{length-map-range_with_len, get_or-map-range_with_len}
 use Rattle.std.proofs.lemmas.List.Elements.{All-nil, All-append}
 use Rattle.hc_core.specs.Number.{Number}
 use Rattle.hc_core.specs.Program.{Statement, Skip, Assign, Delay, Then}
-use Rattle.hc_core.specs.Clock.{Store, World, val, words, with_word, after, target_of, first_words, initial}
-use Rattle.hc_core.specs.Straight.{acted, store_at}
+use Rattle.hc_core.specs.Clock.{Store, val, words, with_word, first_words, initial}
+use Rattle.hc_core.specs.Straight.{acted}
 use Rattle.hc_core.specs.Run.{kinds_of}
 use Rattle.hc_core.specs.declared.stmt.Target.TheVariants.{Reg}
 use Rattle.hc_core.specs.declared.object.Kind.{Kind}
 use Rattle.hc_core.specs.declared.object.Kind.TheVariants as kind
 use Rattle.hc_core.specs.declared.object.Object.{Object}
-use Rattle.hc_net.specs.Bits.{bit, number}
+use Rattle.hc_net.specs.Bits.{number}
 use Rattle.hc_run.specs.Objects.{store_on}
-use Rattle.hc_run.specs.Action.{number_at}
 
 -- a store of n registers: each has its one number
 pub record AreRegisters (n : ℕ) (store : Store) : Type 0 where

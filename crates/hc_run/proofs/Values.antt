@@ -1,16 +1,16 @@
 -- Constants, registers and sums as nets.
-use Rattle.std.proofs.Common.{◌≡◌, ◌≢◌, ◌<◌, ◌≤◌, ℕ, zero, suc, ◌+◌, ◌*◌, ◌/◌, ◌%◌, ◌^◌, List, [], ◌∷◌, ◌++◌, length, map, get_or, Bool, true, false, eqb, cond, Result, Ok, Err, IfOk, refl, sym, ap, ◌∙◌, subst, arith, eq-eqb}
-use Rattle.std.specs.Prelude.{◌==◌, if◌then◌else◌, All, Option, Some, None, slice_get, slice_index, slice_index_or}
+use Rattle.std.proofs.Common.{◌≡◌, ◌≢◌, ◌<◌, ◌≤◌, ℕ, zero, suc, ◌+◌, ◌*◌, ◌%◌, ◌^◌, List, [], ◌∷◌, ◌++◌, length, map, get_or, Bool, true, false, Result, Ok, Err, IfOk, refl, sym, ap, ◌∙◌, subst, arith, eq-eqb}
+use Rattle.std.specs.Prelude.{◌==◌, if◌then◌else◌, All, Option, Some, None, slice_get, slice_index}
 use Rattle.std.specs.List.{range_with_len}
 use Rattle.std.proofs.lemmas.Bool.{ne_eqb}
 use Rattle.std.proofs.lemmas.List.FromFn.{map-range_with_len_more, length-map-range_with_len}
 use Rattle.hc_net.specs.Bits.{bit, number}
-use Rattle.std.proofs.lemmas.List.{get_or-map, length-map}
+use Rattle.std.proofs.lemmas.List.{get_or-map}
 use Rattle.std.proofs.lemmas.Option.{slice_get_within}
-use Rattle.hc_core.specs.Number.{Number, sum}
+use Rattle.hc_core.specs.Number.{Number}
 use Rattle.hc_core.specs.Program.{Expression, Constant, Register, Binary}
 use Rattle.hc_core.specs.Read.{expression}
-use Rattle.hc_core.specs.Clock.{World, val, words, typed}
+use Rattle.hc_core.specs.Clock.{val, words, typed}
 use Rattle.hc_core.specs.Run.{kinds_of}
 use Rattle.hc_core.specs.Sound.{IsNumber, IsKind, Typed, constant, register, sum as sum_type, IsSound}
 use Rattle.hc_core.specs.declared.expr.BinOp.{BinOp}
@@ -20,10 +20,9 @@ use Rattle.hc_core.specs.declared.expr.Expr.TheVariants as e
 use Rattle.hc_core.specs.declared.object.Kind.{Kind}
 use Rattle.hc_core.specs.declared.object.Kind.TheVariants.{Reg}
 use Rattle.hc_core.specs.declared.object.Core.{Core}
-use Rattle.hc_net.specs.Run.{Trace}
-use Rattle.hc_net.specs.Circuit.{Circuit, History, Explains}
+use Rattle.hc_net.specs.Circuit.{Circuit}
 use Rattle.hc_net.specs.declared.node.Node.{Node}
-use Rattle.hc_run.specs.Grown.{AddsGates, Computes, IsZero, sum_on}
+use Rattle.hc_run.specs.Grown.{Computes, IsZero, sum_on}
 use Rattle.hc_run.specs.Constant.{constant_nets}
 use Rattle.hc_run.specs.Objects.{AreNets, HasConstants, store_on, value_on, width_in, sums, CanCompute, ComputesValue}
 use Rattle.hc_run.specs.declared.circuits.value.ObjectNets.{ObjectNets}

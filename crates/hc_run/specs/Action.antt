@@ -1,5 +1,5 @@
 -- What the circuit of one action does to the next values of the registers.
-use Rattle.std.specs.Prelude.{◌≡◌, ◌<◌, ◌≤◌, ℕ, ◌+◌, ◌^◌, List, [], ◌∷◌, length, map, Bool, true, false, Some, slice_index, slice_index_or, All}
+use Rattle.std.specs.Prelude.{◌≡◌, ◌<◌, ℕ, ◌+◌, ◌^◌, List, [], length, map, Bool, true, false, Some, slice_index, slice_index_or, All}
 use Rattle.hc_core.specs.Program.{Statement}
 use Rattle.hc_core.specs.Clock.{words}
 use Rattle.hc_core.specs.Straight.{acted}

@@ -2,7 +2,7 @@
 use Rattle.std.specs.Prelude.{◌≡◌, ◌<◌, ◌≤◌, ℕ, ◌+◌, ◌*◌, ◌^◌, List, [], ◌∷◌, length, map, Bool, true, false, Some, slice_get, slice_index_or, All}
 use Rattle.hc_core.specs.Number.{Number}
 use Rattle.hc_core.specs.Program.{Expression, Constant, Register, Binary, Statement, Skip, Assign, Delay, Then}
-use Rattle.hc_core.specs.Clock.{Store, World, val, typed}
+use Rattle.hc_core.specs.Clock.{Store, val, typed}
 use Rattle.hc_core.specs.declared.object.Kind.{Kind}
 use Rattle.hc_core.specs.declared.object.Kind.TheVariants.{Reg}
 use Rattle.hc_core.specs.Run.{kinds_of}

@@ -1,5 +1,5 @@
 -- A program without control as a chain of tokens, action by action.
-use Rattle.std.specs.Prelude.{◌≡◌, ◌<◌, ◌≤◌, ◌==◌, ℕ, ◌+◌, ◌*◌, ◌^◌, List, [], length, map, Bool, Some, take, slice_get, slice_index, slice_index_or, All}
+use Rattle.std.specs.Prelude.{◌≡◌, ◌<◌, ◌≤◌, ◌==◌, ℕ, ◌+◌, ◌*◌, ◌^◌, List, [], length, Bool, Some, take, slice_get, slice_index, slice_index_or, All}
 use Rattle.hc_core.specs.Program.{Statement}
 use Rattle.hc_core.specs.Read.{statement}
 use Rattle.hc_core.specs.Clock.{words}

@@ -1,8 +1,7 @@
 -- Each form's circuit, by what the part is as a statement.
-use Rattle.std.proofs.Common.{◌≡◌, ℕ, List, sym, ap, ◌∙◌, subst}
+use Rattle.std.proofs.Common.{sym, subst}
 use Rattle.std.specs.Prelude.{OnOk}
-use Rattle.hc_core.specs.Program.{Statement, Assign}
-use Rattle.hc_core.specs.Read.{expression, statement}
+use Rattle.hc_core.specs.Program.{Statement}
 use Rattle.hc_run.specs.Action.{CanAct, Acts}
 use Rattle.hc_run.proofs.Actions.{part_assign, part_delay, delay_acts}
 use Rattle.hc_run.proofs.circuits.action.act.Goals as goal

@@ -1,8 +1,6 @@
 -- The value is computed and chosen by the token.
-use Rattle.std.proofs.Common.{◌≡◌, ◌<◌, ◌≤◌, ℕ, ◌*◌, ◌+◌, List, [], length, get_or, sym, ap, ◌∙◌, subst, arith}
-use Rattle.hc_core.specs.Read.{expression}
-use Rattle.hc_run.specs.Grown.{Computes, Anything, choice_on}
-use Rattle.hc_run.proofs.Actions.{next_nets, register_there, can_compute, can_choose_room, assigned_width, assign_acts}
+use Rattle.std.proofs.Common.{length, sym, ap, ◌∙◌, arith}
+use Rattle.hc_run.proofs.Actions.{next_nets, register_there, can_choose_room, assigned_width, assign_acts}
 use Rattle.hc_run.proofs.circuits.action.assign.Goals as goal
 
 pub choose-requires-clause-widths : goal.choose-requires-clause-widths

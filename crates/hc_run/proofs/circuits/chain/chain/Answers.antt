@@ -1,5 +1,5 @@
 -- The chain grows by an action and its token.
-use Rattle.std.proofs.Common.{◌≡◌, ◌<◌, ◌≤◌, ℕ, ◌+◌, ◌*◌, List, length, map, sym, ap, ◌∙◌, subst, arith}
+use Rattle.std.proofs.Common.{◌≡◌, ℕ, List, length, map, sym, ◌∙◌, subst, arith}
 use Rattle.hc_core.specs.Read.{statement}
 use Rattle.hc_run.specs.Progress.{Progress}
 use Rattle.hc_run.proofs.Chain.{can_act, advances, token_room}

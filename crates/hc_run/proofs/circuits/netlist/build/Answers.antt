@@ -1,7 +1,5 @@
 -- Registers, the chain of actions, and the feeding of the registers; then the netlist.
-use Rattle.std.proofs.Common.{◌≡◌, ◌<◌, ℕ, List, [], length, map, sym, ap, ◌∙◌, refl}
-use Rattle.std.specs.Prelude.{All}
-use Rattle.hc_core.specs.Run.{kinds_of}
+use Rattle.std.proofs.Common.{ap, ◌∙◌}
 use Rattle.hc_net.specs.Circuit.{Circuit}
 use Rattle.hc_net.specs.Seal.{Seals}
 use Rattle.hc_run.specs.Headline.{Implements}

@@ -1,6 +1,4 @@
-use Rattle.std.proofs.Common.{◌≡◌, ◌<◌, ◌+◌, length, refl, ap, ◌∙◌, subst, arith, length-append}
-use Rattle.std.proofs.lemmas.List.FromFn.{length-map-range_with_len}
-use Rattle.hc_net.specs.Circuit.{Circuit}
+use Rattle.std.proofs.Common.{◌≡◌, refl, subst, arith}
 use Rattle.hc_run.specs.Machine.{MakesRegister}
 use Rattle.hc_run.proofs.Registers.{register_none, register_more, register_size}
 use Rattle.hc_run.proofs.circuits.registers.register.Goals as goal

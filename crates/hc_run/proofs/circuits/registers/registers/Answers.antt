@@ -1,4 +1,4 @@
-use Rattle.std.proofs.Common.{◌≡◌, ◌<◌, ◌≤◌, ◌+◌, ◌*◌, length, get_or, sym, ap, ◌∙◌, subst, arith}
+use Rattle.std.proofs.Common.{◌≡◌, length, sym, ap, ◌∙◌, arith}
 use Rattle.hc_core.specs.declared.object.Object.{Object}
 use Rattle.hc_run.specs.Machine.{width_of, first_bits}
 use Rattle.hc_run.proofs.Registers.{some_none, some_more, some_all, narrow_object, kinds_more, length-kinds}

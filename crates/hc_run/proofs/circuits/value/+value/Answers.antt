@@ -1,7 +1,7 @@
 -- Each form's nets, by the lemma of the form.
-use Rattle.std.proofs.Common.{rules, ◌≡◌, ◌<◌, ◌≤◌, ◌*◌, length, List, [], get_or, ap, sym, ◌∙◌, subst, arith}
+use Rattle.std.proofs.Common.{rules, ◌≡◌, ◌<◌, [], get_or, ◌∙◌}
 use Rattle.hc_core.specs.Read.{expression}
-use Rattle.hc_run.specs.Objects.{CanCompute, ComputesValue, sums}
+use Rattle.hc_run.specs.Objects.{ComputesValue, sums}
 use Rattle.hc_run.specs.Constant.{constant_nets}
 use Rattle.hc_run.proofs.Values.{known_register, gives_constant, gives_register, first_operand, second_operand, can_add, gives_sum, if_ok, fewer_sums, item_is}
 use Rattle.hc_run.proofs.circuits.value.+value.Goals as goal
