@@ -21,6 +21,7 @@ pub mod Numbered
 pub mod Order
 pub mod Registers
 pub mod Rows
+pub mod Sample
 pub mod Sending
 pub mod Sequence
 pub mod Sizes

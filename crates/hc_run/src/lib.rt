@@ -7,6 +7,8 @@ mod due;
 mod edif;
 mod reader;
 mod status;
+#[cfg(test)]
+mod tests;
 mod text;
 mod top;
 mod words;
