@@ -1,8 +1,8 @@
 -- Worked rows of the clock law, computed.
 use Rattle.std.proofs.Common.{◌≡◌, ℕ, zero, suc, List, [], ◌∷◌, map, Bool, true, false, refl}
-use Rattle.hc_core.specs.Number.{Number}
+use Rattle.hc_num.specs.Number.{Number}
 use Rattle.hc_core.specs.Program.{Expression, Constant, Register, Binary, Statement, Skip, Assign, Delay, Then}
-use Rattle.hc_core.specs.Clock.{Store, World, adv, front, after, completed, words}
+use Rattle.hc_core.specs.Clock.{Store, World, first_words, adv, front, after, completed, words}
 use Rattle.hc_core.specs.Run.{State}
 use Rattle.hc_core.specs.declared.expr.BinOp.TheVariants.{Add}
 use Rattle.hc_core.specs.declared.stmt.Target.TheVariants.{Reg}
@@ -39,3 +39,8 @@ empty_program = refl
 sum_wraps : words (edge (kind.Reg 4 false (number 4 0) ∷ []) (Assign (Reg 0) (Binary Add (Register 0) (Constant (number 4 1)))) ((15 ∷ []) ∷ []) 1).store 0 ≡ 0 ∷ []
 unfolding edge number
 sum_wraps = refl
+
+-- a register starts with its initial number
+first_store : map first_words (kind.Reg 4 false (number 4 3) ∷ kind.Reg 1 false (number 1 1) ∷ []) ≡ (3 ∷ []) ∷ (1 ∷ []) ∷ []
+unfolding number
+first_store = refl

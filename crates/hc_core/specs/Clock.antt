@@ -1,6 +1,7 @@
 -- The clock law (after the timing of the Handel-C manual; what goes beyond it is this project's own).
 use Rattle.std.specs.Prelude.{◌≡◌, ℕ, ◌+◌, List, [], ◌∷◌, ◌++◌, map, Bool, false, slice_index, slice_index_or, slice_set, Option, Some, None, slice_get, AllPairs, ◌≢◌}
-use Rattle.hc_core.specs.Number.{Number, sum}
+use Rattle.hc_num.specs.Number.{Number}
+use Rattle.hc_num.specs.Arithmetic.{sum}
 use Rattle.hc_core.specs.Program.{Expression, Constant, Register, Binary, Statement, Skip, Assign, Delay, Then}
 use Rattle.hc_core.specs.declared.expr.BinOp.{BinOp}
 use Rattle.hc_core.specs.declared.expr.BinOp.TheVariants.{Add}

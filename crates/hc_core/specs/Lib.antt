@@ -1,4 +1,3 @@
-pub mod Number
 pub mod Program
 pub mod Read
 pub mod Clock

@@ -1,6 +1,6 @@
 -- A program as the clock law reads it: expressions and statements without places, sequences two at a time.
 use Rattle.std.specs.Prelude.{ℕ}
-use Rattle.hc_core.specs.Number.{Number}
+use Rattle.hc_num.specs.Number.{Number}
 use Rattle.hc_core.specs.declared.expr.BinOp.{BinOp}
 use Rattle.hc_core.specs.declared.stmt.Target.{Target}
 

@@ -1,6 +1,6 @@
 -- Soundness of a core: every number names an object, and every expression has the type of its place.
 use Rattle.std.specs.Prelude.{◌≡◌, ◌<◌, ◌≤◌, ℕ, ◌^◌, List, [], ◌∷◌, length, Bool, Option, Some, slice_get}
-use Rattle.hc_core.specs.Number.{Number}
+use Rattle.hc_num.specs.Number.{Number}
 use Rattle.hc_core.specs.Program.{Expression, Constant, Register, Binary, Statement, Skip, Assign, Delay, Then}
 use Rattle.hc_core.specs.Read.{statement}
 use Rattle.hc_core.specs.Run.{kinds_of}

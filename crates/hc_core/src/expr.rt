@@ -1,4 +1,4 @@
-use crate::num::Num;
+use hc_num::Num;
 use sqlite_items::Boxed;
 
 /// An operator of two operands.

@@ -4,16 +4,10 @@
 
 mod expr;
 mod laws;
-mod name;
-mod num;
 mod object;
-mod refusal;
 mod stmt;
 
 pub use expr::{BinOp, Expr};
 pub use laws::{every_clock_is_clean, runs_in_order};
-pub use name::Name;
-pub use num::Num;
 pub use object::{Core, Kind, Object, Objects};
-pub use refusal::{Detail, NoMemory, Place, Refusal, Rule};
 pub use stmt::{Stmt, Stmts, Target};

@@ -1,7 +1,6 @@
-use crate::name::Name;
-use crate::num::Num;
-use crate::refusal::Place;
 use crate::stmt::Stmt;
+use hc_num::Num;
+use hc_tree::{Name, Place};
 use sqlite_items::Items;
 
 /// What an object is, with its width in bits.

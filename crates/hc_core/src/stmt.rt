@@ -1,5 +1,5 @@
 use crate::expr::Expr;
-use crate::refusal::Place;
+use hc_tree::Place;
 use sqlite_items::Items;
 
 /// What an assignment writes, by its object's number.

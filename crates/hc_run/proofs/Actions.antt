@@ -10,7 +10,7 @@ use Rattle.hc_core.specs.Run.{kinds_of}
 use Rattle.hc_core.specs.declared.object.Core.{Core}
 use Rattle.hc_core.specs.Read.{expression, statement}
 use Rattle.hc_core.specs.declared.expr.Expr.{Expr}
-use Rattle.hc_core.specs.declared.refusal.Place.{Place}
+use Rattle.hc_tree.specs.declared.place.Place.{Place}
 use Rattle.hc_core.specs.declared.stmt.Stmt.{Stmt}
 use Rattle.hc_core.specs.declared.stmt.Stmt.TheVariants as s
 use Rattle.hc_core.specs.declared.stmt.Target.{Target}

@@ -6,7 +6,7 @@ use Rattle.std.proofs.lemmas.Bool.{cases_lt}
 use Rattle.std.proofs.lemmas.List.{get_or-map, length-map, take_all}
 use Rattle.std.proofs.lemmas.List.FromFn.{length-range_with_len}
 use Rattle.std.proofs.lemmas.Option.{slice_get-get_or, slice_get_within, get_or_from_slice_get}
-use Rattle.hc_core.specs.Number.{Number}
+use Rattle.hc_num.specs.Number.{Number}
 use Rattle.hc_core.specs.Program.{Statement}
 use Rattle.hc_core.specs.Read.{statement}
 use Rattle.hc_core.specs.Clock.{Store, words, initial}

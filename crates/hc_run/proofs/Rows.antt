@@ -4,7 +4,8 @@ use Rattle.std.proofs.Common.{arith}
 use Rattle.std.proofs.lemmas.Fmt.{decimal_digit}
 use Rattle.hc_run.specs.declared.status.Role.TheVariants.{Source}
 use Rattle.hc_run.specs.Words.{IsBuild, HasNoJob}
-use Rattle.hc_run.specs.Lines.{built_line, rule_name, detail_text, refusal_line, role_name, read_fault_line, longer_line}
+use Rattle.hc_run.specs.Refused.{rule_name, node_mark, node_text, detail_text, refusal_line}
+use Rattle.hc_run.specs.Lines.{built_line, role_name, read_fault_line, longer_line}
 use Rattle.hc_run.specs.Answer.{not_built}
 
 row_built : built_line 6 8 ≡ codes "built: gates 6, flip-flops 8, rams 0\n"

@@ -12,7 +12,7 @@ use Rattle.hc_core.specs.declared.expr.Expr.{Expr}
 use Rattle.hc_core.specs.declared.object.Kind.{Kind}
 use Rattle.hc_core.specs.declared.stmt.Target.{Target}
 use Rattle.hc_run.specs.FirstForm.{IsAction}
-use Rattle.hc_core.specs.declared.refusal.Place.{Place}
+use Rattle.hc_tree.specs.declared.place.Place.{Place}
 use Rattle.hc_core.specs.declared.stmt.Stmt.{Stmt, items-the_row-Stmt, items_hidden-the_row-Stmt-0}
 use Rattle.hc_core.specs.declared.stmt.Stmt.TheVariants as s
 use Rattle.hc_core.specs.declared.stmt.Stmt.TheBlock as b

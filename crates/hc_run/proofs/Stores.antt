@@ -6,7 +6,7 @@ use Rattle.std.proofs.lemmas.Bool.Decides.{eqb_tells}
 use Rattle.std.proofs.lemmas.List.{ext_get_or, get_or-map, length-map, map-append}
 use Rattle.std.proofs.lemmas.List.FromFn.{length-map-range_with_len, get_or-map-range_with_len}
 use Rattle.std.proofs.lemmas.List.Elements.{All-nil, All-append}
-use Rattle.hc_core.specs.Number.{Number}
+use Rattle.hc_num.specs.Number.{Number}
 use Rattle.hc_core.specs.Program.{Statement, Skip, Assign, Delay, Then}
 use Rattle.hc_core.specs.Clock.{Store, val, words, with_word, first_words, initial}
 use Rattle.hc_core.specs.Straight.{acted}

@@ -1,6 +1,6 @@
 -- The tokens of a text, cut one after another.
 use Rattle.std.proofs.Common.{◌≡◌, ℕ, zero, suc, ◌-◌, ◌≤◌, ◌<◌, List, [], ◌∷◌, length, take, drop, if◌then◌else◌, refl, ap, arith}
-use Rattle.hc_core.specs.declared.refusal.Place.{Place}
+use Rattle.hc_tree.specs.declared.place.Place.{Place}
 use Rattle.hc_run.specs.Token.{Token, front, is_blank_kind, next_place, place_behind, tokens_from}
 
 tokens_from-drop : (n : ℕ) (at : Place) (z : List ℕ) → tokens_from n at z ≡ tokens_from 0 (place_behind at (take n z)) (drop n z)

@@ -6,9 +6,9 @@ use Rattle.std.specs.FinMap.{get, insert}
 use Rattle.hc_outside.specs.Count.{HasRisen, Moves}
 use Rattle.hc_outside.specs.Store.{Files, Disk, StoreState, IsFile, IsMissing, IsLonger, SameFiles, MovesReads}
 use Rattle.hc_outside.specs.Sink.{SinkState, Wrote, WroteFront}
-use Rattle.hc_core.specs.declared.refusal.Rule.TheVariants.{NotBuilt}
-use Rattle.hc_core.specs.declared.refusal.Detail.TheVariants.{Nothing}
-use Rattle.hc_core.specs.declared.refusal.Refusal.{Refusal}
+use Rattle.hc_tree.specs.declared.refusal.Rule.TheVariants.{NotBuilt}
+use Rattle.hc_tree.specs.declared.refusal.Detail.TheVariants.{Nothing}
+use Rattle.hc_tree.specs.declared.refusal.Refusal.{Refusal}
 use Rattle.hc_core.specs.declared.object.Core.{Core}
 use Rattle.hc_net.specs.declared.net.RawNet.{RawNet}
 use Rattle.hc_net.specs.Valid.{IsValid}
@@ -19,7 +19,8 @@ use Rattle.hc_run.specs.FirstForm.{first_form}
 use Rattle.hc_run.specs.Edif.{edif}
 use Rattle.hc_run.specs.Headline.{Implements}
 use Rattle.hc_run.specs.Words.{IsBuild, HasNoJob}
-use Rattle.hc_run.specs.Lines.{built_line, refusal_line, usage_line, read_fault_line, longer_line}
+use Rattle.hc_run.specs.Refused.{refusal_line}
+use Rattle.hc_run.specs.Lines.{built_line, usage_line, read_fault_line, longer_line}
 
 -- how many bytes a source may have: 4 MiB
 abbrev pub source_limit : ℕ

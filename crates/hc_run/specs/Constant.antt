@@ -1,7 +1,7 @@
 -- The nets of a constant.
 use Rattle.std.specs.Prelude.{ℕ, List, map, if◌then◌else◌}
 use Rattle.std.specs.List.{range_with_len}
-use Rattle.hc_core.specs.Number.{Number}
+use Rattle.hc_num.specs.Number.{Number}
 use Rattle.hc_net.specs.Bits.{bit}
 
 -- the net of each bit of a number, where two nets stand for 0 and 1

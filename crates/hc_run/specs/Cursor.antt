@@ -1,6 +1,6 @@
 -- What a cursor over tokens shows.
 use Rattle.std.specs.Prelude.{ℕ, ◌≡◌, ◌≤◌, ◌+◌, ◌^◌, List, [], ◌∷◌, length, IsTrue, Option, Some, None, IfSome}
-use Rattle.hc_core.specs.declared.refusal.Place.{Place}
+use Rattle.hc_tree.specs.declared.place.Place.{Place}
 use Rattle.hc_run.specs.Token as spec
 use Rattle.hc_run.specs.Token.{tokens_from, is_plain, inner}
 use Rattle.hc_run.specs.declared.reader.lex.Kind.TheVariants.{Text}

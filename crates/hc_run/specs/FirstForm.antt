@@ -2,7 +2,7 @@
 use Rattle.std.specs.Prelude.{◌≡◌, ◌≤◌, ℕ, zero, suc, ◌^◌, Bool, true, false, not, ◌&&◌, ◌==◌, nat_le, nat_lt, if◌then◌else◌, List, [], ◌∷◌, ◌++◌, length, Option, Some, None, option_map, option_and_then, codes}
 use Rattle.std.specs.List.{list_any, All}
 use Rattle.std.specs.Str.{bytes_eq}
-use Rattle.hc_core.specs.Number.{Number}
+use Rattle.hc_num.specs.Number.{Number}
 use Rattle.hc_core.specs.Program.{Expression, Constant, Register, Binary as Sum}
 use Rattle.hc_core.specs.Read.{expression}
 use Rattle.hc_core.specs.Sound.{IsSound}
@@ -13,7 +13,7 @@ use Rattle.hc_core.specs.declared.object.Core.{Core}
 use Rattle.hc_core.specs.declared.object.Kind as object_kind
 use Rattle.hc_core.specs.declared.object.Kind.TheVariants as kind
 use Rattle.hc_core.specs.declared.object.Object.{Object}
-use Rattle.hc_core.specs.declared.refusal.Place.{Place}
+use Rattle.hc_tree.specs.declared.place.Place.{Place}
 use Rattle.hc_core.specs.declared.stmt.Stmt.{Stmt}
 use Rattle.hc_core.specs.declared.stmt.Stmt.TheVariants as s
 use Rattle.hc_core.specs.declared.stmt.Target.TheVariants as target

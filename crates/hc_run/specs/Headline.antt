@@ -1,6 +1,6 @@
 -- When a netlist does what a core does: the statement that the whole compiler stands on.
 use Rattle.std.specs.Prelude.{◌≡◌, ◌<◌, ◌≤◌, ℕ, List, [], map, Bool, true, false, Some, slice_get, slice_index}
-use Rattle.hc_core.specs.Number.{Number}
+use Rattle.hc_num.specs.Number.{Number}
 use Rattle.hc_core.specs.Clock.{Store, words}
 use Rattle.hc_core.specs.Run.{Run, kinds_of}
 use Rattle.hc_core.specs.declared.object.Kind.TheVariants.{Reg}

@@ -13,6 +13,7 @@ pub mod Objects
 pub mod Pins
 pub mod Progress
 pub mod Reads
+pub mod Refused
 pub mod Sample
 pub mod Sent
 pub mod Steps

@@ -1,28 +1,11 @@
 -- The lines that the top call writes, each with its line feed. Their form is this project's own.
-use Rattle.std.specs.Prelude.{ℕ, List, [], ◌++◌, codes, decimal}
-use Rattle.hc_core.specs.declared.refusal.Rule.{Rule}
-use Rattle.hc_core.specs.declared.refusal.Rule.TheVariants.{NotBuilt}
-use Rattle.hc_core.specs.declared.refusal.Detail.{Detail}
-use Rattle.hc_core.specs.declared.refusal.Detail.TheVariants.{Nothing}
-use Rattle.hc_core.specs.declared.refusal.Refusal.{Refusal}
+use Rattle.std.specs.Prelude.{ℕ, List, ◌++◌, codes, decimal}
 use Rattle.hc_run.specs.declared.status.Role.{Role}
 use Rattle.hc_run.specs.declared.status.Role.TheVariants.{Source}
 
 -- what was built, with the numbers of gates and flip-flops
 unfoldable pub built_line : ℕ → ℕ → List ℕ
 built_line gates flops = codes "built: gates " ++ decimal gates ++ codes ", flip-flops " ++ decimal flops ++ codes ", rams 0\n"
-
--- the name of a rule
-unfoldable pub rule_name : Rule → List ℕ
-rule_name NotBuilt = codes "NotBuilt"
-
--- what a refusal says after its place
-unfoldable pub detail_text : Detail → List ℕ
-detail_text Nothing = []
-
--- a refusal: its rule, its place and its detail
-unfoldable pub refusal_line : Refusal → List ℕ
-refusal_line r = codes "refused " ++ rule_name r.rule ++ codes " at " ++ decimal r.place.line ++ codes ":" ++ decimal r.place.column ++ detail_text r.detail ++ codes "\n"
 
 -- the words of every job
 unfoldable pub usage_line : List ℕ

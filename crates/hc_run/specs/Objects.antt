@@ -1,6 +1,6 @@
 -- The nets on which a circuit finds the objects of a core.
 use Rattle.std.specs.Prelude.{◌≡◌, ◌<◌, ◌≤◌, ℕ, ◌+◌, ◌*◌, ◌^◌, List, [], ◌∷◌, length, map, Bool, true, false, Some, slice_get, slice_index_or, All}
-use Rattle.hc_core.specs.Number.{Number}
+use Rattle.hc_num.specs.Number.{Number}
 use Rattle.hc_core.specs.Program.{Expression, Constant, Register, Binary, Statement, Skip, Assign, Delay, Then}
 use Rattle.hc_core.specs.Clock.{Store, val, typed}
 use Rattle.hc_core.specs.declared.object.Kind.{Kind}

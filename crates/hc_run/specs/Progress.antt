@@ -6,7 +6,7 @@ use Rattle.hc_core.specs.Clock.{words}
 use Rattle.hc_core.specs.Straight.{acted}
 use Rattle.hc_core.specs.Run.{kinds_of}
 use Rattle.hc_core.specs.Sound.{IsSound, IsTyped}
-use Rattle.hc_core.specs.Number.{Number}
+use Rattle.hc_num.specs.Number.{Number}
 use Rattle.hc_core.specs.declared.object.Core.{Core}
 use Rattle.hc_core.specs.declared.object.Kind.TheVariants.{Reg}
 use Rattle.hc_core.specs.declared.stmt.Stmt.{Stmt}

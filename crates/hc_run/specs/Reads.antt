@@ -9,7 +9,7 @@ use Rattle.hc_core.specs.declared.object.Kind.TheVariants as kind
 use Rattle.hc_core.specs.declared.object.Object.{Object}
 use Rattle.hc_core.specs.declared.stmt.Stmt.{Stmt}
 use Rattle.hc_core.specs.declared.stmt.Stmt.TheVariants as s
-use Rattle.hc_core.specs.declared.refusal.Place.{Place}
+use Rattle.hc_tree.specs.declared.place.Place.{Place}
 use Rattle.hc_run.specs.Token.{Token}
 use Rattle.hc_run.specs.FirstForm.{number, IsSimple, IsAction}
 use Rattle.hc_run.specs.declared.reader.first_form.Stop.{Stop}

@@ -6,7 +6,7 @@ use Rattle.hc_outside.specs.declared.errors.WriteErr.TheVariants as write
 use Rattle.hc_outside.specs.Count.{HasRisen}
 use Rattle.hc_outside.specs.Store.{Disk, StoreState, SameFiles, appended, closed}
 use Rattle.hc_outside.specs.Sink.{SinkState, Wrote, WroteFront}
-use Rattle.hc_core.specs.declared.refusal.Refusal.{Refusal}
+use Rattle.hc_tree.specs.declared.refusal.Refusal.{Refusal}
 use Rattle.hc_core.specs.declared.object.Core.{Core}
 use Rattle.hc_net.specs.declared.net.RawNet.{RawNet}
 use Rattle.hc_net.specs.Valid.{IsValid}
@@ -16,7 +16,8 @@ use Rattle.hc_run.specs.declared.due.Due.{Due}
 use Rattle.hc_run.specs.declared.due.Due.TheVariants.{Built, Refused, Usage, ReadFault, Longer}
 use Rattle.hc_run.specs.Edif.{edif}
 use Rattle.hc_run.specs.Headline.{Implements}
-use Rattle.hc_run.specs.Lines.{built_line, refusal_line, usage_line, read_fault_line, longer_line}
+use Rattle.hc_run.specs.Refused.{refusal_line}
+use Rattle.hc_run.specs.Lines.{built_line, usage_line, read_fault_line, longer_line}
 use Rattle.hc_run.specs.Answer.{Accepted, First, Saved, files_of, HoldsFront, IsDue, IsWriteFault, IsNoMemory, IsCutOff}
 
 -- the status that is due

@@ -16,9 +16,10 @@ use crate::edif::write_edif;
 use crate::reader::read_first_form;
 use crate::status::Role;
 use crate::words::read_words;
-use hc_core::{Core, Detail, Place, Refusal, Rule};
+use hc_core::Core;
 use hc_net::RawNet;
 use hc_outside::{LoadErr, OpenFile, Store, StoreErr, WriteErr};
+use hc_tree::{Detail, Place, Refusal, Rule};
 use std::alloc::Global;
 
 /// How many bytes a source may have: 4 MiB.

@@ -1,9 +1,10 @@
 ghost use Rattle.std.specs.Prelude.{◌≡◌, IfOk};
 ghost use Rattle.hc_run.specs.Steps.{status_of, text_of};
-ghost use Rattle.hc_run.specs.Lines.{built_line, refusal_line, read_fault_line, longer_line, usage_line, rule_name, role_name, detail_text};
+ghost use Rattle.hc_run.specs.Lines.{built_line, read_fault_line, longer_line, usage_line, role_name};
 
+use crate::refused::refusal_line;
 use crate::status::{Role, Status};
-use hc_core::{Detail, Refusal, Rule};
+use hc_tree::Refusal;
 use itoa::Buffer;
 use std::alloc::{AllocError, Global};
 
@@ -38,7 +39,7 @@ impl Due {
     {
         match self {
             Due::Built { gates, flops } => built(alloc, *gates, *flops),
-            Due::Refused(refusal) => refused(alloc, refusal),
+            Due::Refused(refusal) => refusal_line(alloc, refusal),
             Due::Usage => usage(alloc),
             Due::ReadFault(role) => read_fault(alloc, *role),
             Due::Longer(role) => longer(alloc, *role),
@@ -57,40 +58,6 @@ fn built(alloc: Global, gates: usize, flops: usize) -> Result<Vec<u8>, AllocErro
     line.extend_from_slice(digits.format(flops).as_bytes())?;
     line.extend_from_slice(b", rams 0\n")?;
     Ok(line)
-}
-
-#[tactic(auto, unfolding(crate::specs::Lines::refusal_line))]
-fn refused(alloc: Global, refusal: &Refusal) -> Result<Vec<u8>, AllocError>
-    ensures { IfOk result (λ line. line.items ≡ refusal_line refusal.now) }
-{
-    let mut digits = Buffer::new();
-    let mut line = Vec::from_slice(alloc, b"refused ")?;
-    line.extend_from_slice(name_of(refusal.rule))?;
-    line.extend_from_slice(b" at ")?;
-    line.extend_from_slice(digits.format(refusal.place.line).as_bytes())?;
-    line.extend_from_slice(b":")?;
-    line.extend_from_slice(digits.format(refusal.place.column).as_bytes())?;
-    line.extend_from_slice(text_after(&refusal.detail))?;
-    line.extend_from_slice(b"\n")?;
-    Ok(line)
-}
-
-#[tactic(auto, unfolding(crate::specs::Lines::rule_name))]
-fn name_of(rule: Rule) -> &'static [u8]
-    ensures { result.now ≡ rule_name rule }
-{
-    match rule {
-        Rule::NotBuilt => b"NotBuilt",
-    }
-}
-
-#[tactic(auto, unfolding(crate::specs::Lines::detail_text))]
-fn text_after(detail: &Detail) -> &'static [u8]
-    ensures { result.now ≡ detail_text detail.now }
-{
-    match detail {
-        Detail::Nothing => b"",
-    }
 }
 
 #[tactic(auto, unfolding(crate::specs::Lines::usage_line))]

@@ -6,6 +6,7 @@ mod circuits;
 mod due;
 mod edif;
 mod reader;
+mod refused;
 mod status;
 #[cfg(test)]
 mod tests;

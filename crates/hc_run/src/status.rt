@@ -1,7 +1,7 @@
 ghost use Rattle.std.specs.Prelude.{◌≡◌};
 ghost use Rattle.hc_run.specs.Exit.{number_of};
 
-use hc_core::Refusal;
+use hc_tree::Refusal;
 
 /// A file of a job.
 #[derive(Clone, Copy, Debug, PartialEq, Eq)]

@@ -6,10 +6,12 @@ ghost use Rattle.hc_run.specs.Sample.{small};
 use crate::circuits::build;
 use crate::edif::write_edif;
 use crate::reader::read_first_form;
+use crate::refused::refusal_line;
 use crate::status::Status;
 use crate::top::hcc;
 use hc_net::{Builder, Cell, FlopName, GateKind, Label, Nets, NoMemory, RawNet};
 use hc_outside::{MemSink, MemStore, Store};
+use hc_tree::{Detail, Name, Node, Place, Refusal, Rule};
 use sqlite_items::Items;
 use std::alloc::Global;
 use std::test::Fail;
@@ -160,6 +162,47 @@ fn answers_no_words_with_the_usage(rt: HostRuntime) -> Result<(), Fail> {
     let status = hcc(alloc, &[], &mut store, &mut out);
     assert!(rt; matches!(status, Status::Usage));
     assert_eq!(rt; out.bytes(), USAGE);
+    Ok(())
+}
+
+/// The line of a refusal.
+fn refused(
+    alloc: Global,
+    rule: Rule,
+    line: u32,
+    column: u32,
+    detail: Detail,
+) -> Result<Vec<u8>, Fail> {
+    let place = Place { line, column };
+    Ok(refusal_line(
+        alloc,
+        &Refusal {
+            rule,
+            place,
+            detail,
+        },
+    )?)
+}
+
+#[test]
+fn says_what_a_refusal_says(rt: HostRuntime) -> Result<(), Fail> {
+    let alloc = rt.alloc();
+    let bare = refused(alloc, Rule::S16, 3, 19, Detail::Nothing)?;
+    assert_eq!(rt; bare.as_slice(), b"refused S16 at 3:19\n".as_slice());
+    let name = Detail::Name(Name::new(alloc, b"c")?);
+    let named = refused(alloc, Rule::S18, 2, 17, name)?;
+    assert_eq!(rt; named.as_slice(), b"refused S18 at 2:17: c\n".as_slice());
+    let pair = refused(alloc, Rule::S9, 3, 19, Detail::Pair(8, 4))?;
+    assert_eq!(rt; pair.as_slice(), b"refused S9 at 3:19: 8 4\n".as_slice());
+    let mut nodes = Items::new(alloc);
+    nodes.push((Node::Value(0), Name::new(alloc, b"s")?))?;
+    nodes.push((Node::Sends(1), Name::new(alloc, b"c")?))?;
+    nodes.push((Node::Receives(1), Name::new(alloc, b"c")?))?;
+    let cycle = refused(alloc, Rule::S17, 2, 19, Detail::Cycle(nodes))?;
+    assert_eq!(rt;
+        cycle.as_slice(),
+        b"refused S17 at 2:19: s c! c?\n".as_slice()
+    );
     Ok(())
 }
 

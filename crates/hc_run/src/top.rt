@@ -3,7 +3,7 @@ ghost use Rattle.std.specs.String.{string_bytes};
 ghost use Rattle.hc_outside.specs.Count.{HasRisen};
 ghost use Rattle.hc_outside.specs.Store.{IsMissing, SameFiles};
 ghost use Rattle.hc_core.specs.declared.object.Core.{Core};
-ghost use Rattle.hc_core.specs.declared.refusal.Refusal.{Refusal};
+ghost use Rattle.hc_tree.specs.declared.refusal.Refusal.{Refusal};
 ghost use Rattle.hc_run.specs.FirstForm.{first_form};
 ghost use Rattle.hc_run.specs.Words.{IsBuild, HasNoJob};
 ghost use Rattle.hc_run.specs.declared.status.Role.{Role};

@@ -1,6 +1,6 @@
 ghost use Rattle.std.specs.Prelude.{◌≡◌, IfOk};
 ghost use Rattle.std.specs.List.{flat_map};
-ghost use Rattle.hc_core.specs.declared.refusal.Place.{Place};
+ghost use Rattle.hc_tree.specs.declared.place.Place.{Place};
 ghost use Rattle.hc_core.specs.declared.stmt.Stmt.TheVariants.{Seq};
 ghost use Rattle.hc_run.specs.FirstForm.{IsFirstForm};
 ghost use Rattle.hc_run.specs.Headline.{Implements};

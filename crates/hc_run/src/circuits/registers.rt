@@ -1,5 +1,5 @@
 ghost use Rattle.std.specs.Prelude.{◌≡◌, ◌<◌, ◌≤◌, ℕ, ◌+◌, ◌*◌, ◌^◌, length, IfOk, Bool, Some, slice_get};
-ghost use Rattle.hc_core.specs.Number.{Number};
+ghost use Rattle.hc_num.specs.Number.{Number};
 ghost use Rattle.hc_core.specs.Run.{kinds_of};
 ghost use Rattle.hc_core.specs.Sound.{IsSound};
 ghost use Rattle.hc_run.specs.Machine.{width_of, first_bits, MakesRegister, MakesRegisters};

@@ -4,8 +4,9 @@ ghost use Rattle.hc_run.specs.Constant.{constant_nets};
 ghost use Rattle.hc_run.specs.Objects.{CanCompute, ComputesValue};
 
 use crate::circuits::adder::add;
-use hc_core::{BinOp, Core, Expr, Num};
+use hc_core::{BinOp, Core, Expr};
 use hc_net::{Builder, Nets, NoMemory};
+use hc_num::Num;
 use sqlite_items::Items;
 use std::alloc::Global;
 

@@ -13,10 +13,9 @@ ghost use Rattle.hc_run.specs.Cursor.{token_of, IsPlain};
 
 use crate::reader::lex::Kind;
 use crate::reader::tokens::{Token, Tokens};
-use hc_core::{
-    BinOp, Core, Expr, Kind as ObjectKind, Name, NoMemory, Num, Object, Objects, Place, Stmt,
-    Stmts, Target,
-};
+use hc_core::{BinOp, Core, Expr, Kind as ObjectKind, Object, Objects, Stmt, Stmts, Target};
+use hc_num::Num;
+use hc_tree::{Name, NoMemory, Place};
 use sqlite_items::{Boxed, Items};
 use std::alloc::Global;
 

@@ -6,7 +6,7 @@ ghost use Rattle.hc_run.specs.Cursor.{token_of, IsPlain, HasRoom, IsBehind};
 ghost use Rattle.hc_run.specs.FirstForm.{sees};
 
 use crate::reader::lex::{Kind, front};
-use hc_core::Place;
+use hc_tree::Place;
 use std::marker::Model;
 
 #[derive(Clone, Copy, Debug)]

@@ -1,6 +1,6 @@
 use Rattle.std.proofs.Common.{◌≡◌, List, [], ◌∷◌, ℕ, length, refl, ◌∙◌, arith, ◌≤◌}
 use Rattle.std.proofs.lemmas.Bool.Decides.{nat_tests}
-use Rattle.hc_core.specs.declared.refusal.Place.{Place}
+use Rattle.hc_tree.specs.declared.place.Place.{Place}
 use Rattle.hc_run.specs.Token.{tokens_from}
 use Rattle.hc_run.proofs.reader.tokens.Tokens.from.Goals as goal
 

@@ -1,0 +1,6 @@
+pub mod Comment
+pub mod Digits
+pub mod Either
+pub mod Fronts
+pub mod Reached
+pub mod Readings

@@ -1,0 +1,10 @@
+use Rattle.std.proofs.Common.{◌≡◌, ◌+◌, ◌-◌, ◌≤◌, length, drop}
+use Rattle.std.specs.List.{prefix_len}
+use Rattle.hc_lex.specs.Front.{is_text_byte}
+use Rattle.hc_lex.proofs.front.inner_len.Given as goal
+
+abbrev pub invariant-loop-end : goal.invariant-loop-end
+invariant-loop-end l = (l.end + prefix_len is_text_byte (drop l.end l.text) ≡ prefix_len is_text_byte l.text) × (l.end ≤ length l.text)
+
+abbrev pub decreases-loop-end : goal.decreases-loop-end
+decreases-loop-end l = length l.text - l.end

@@ -1,0 +1,6 @@
+use Rattle.std.proofs.Common.{◌*◌, ◌^◌}
+use Rattle.hc_num.proofs.Widths.{mod_128-mod}
+use Rattle.hc_num.proofs.num.Num.shl.Goals as goal
+
+pub returns : goal.returns
+returns c = cc (mod_128-mod (c.bits.result * 2 ^ c.args.amount) c.args.self.width c.wrapped.ensures.most)

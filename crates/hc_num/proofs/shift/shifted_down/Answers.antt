@@ -1,0 +1,6 @@
+use Rattle.std.proofs.Common.{arith, sym}
+use Rattle.hc_num.proofs.Widths.{shr_all}
+use Rattle.hc_num.proofs.shift.shifted_down.Goals as goal
+
+pub returns-else-amount-lt128 : goal.returns-else-amount-lt128
+returns-else-amount-lt128 c = sym (shr_all c.args.bits 128 c.args.amount (omega arith) (omega arith))
