@@ -1,13 +1,13 @@
 -- Bytes and their tokens.
 use Rattle.std.specs.Prelude.{ℕ, ◌≡◌, ◌≤◌, ◌+◌, ◌-◌, Bool, true, nat_le, if◌then◌else◌, IsTrue, List, [], ◌∷◌, length, take, drop, slice_range, Option, Some, None}
-use Rattle.std.specs.List.{All}
+use Rattle.std.specs.List.{All, list_all}
 use Rattle.hc_tree.specs.declared.place.Place.{Place}
 use Rattle.hc_tree.specs.declared.refusal.Rule.{Rule}
 use Rattle.hc_tree.specs.declared.refusal.Rule.TheVariants.{S1, L1, L2}
 use Rattle.hc_tree.specs.declared.refusal.Detail.TheVariants.{Nothing}
 use Rattle.hc_tree.specs.declared.refusal.FrontErr.{FrontErr}
 use Rattle.hc_tree.specs.declared.refusal.FrontErr.TheVariants.{Refused, NoMemory}
-use Rattle.hc_lex.specs.Front.{front}
+use Rattle.hc_lex.specs.Front.{front, is_text_byte}
 use Rattle.hc_lex.specs.Place.{place_behind}
 use Rattle.hc_lex.specs.declared.front.Kind.{Kind}
 use Rattle.hc_lex.specs.declared.front.Kind.TheVariants as k
@@ -42,6 +42,16 @@ is_short (Mark mark) = true
 
 abbrev pub IsShort : Placed → Type 0
 IsShort t = IsTrue (is_short t.token)
+
+-- between the quotes of a text there are plain bytes alone
+abbrev pub is_plain : Token → Bool
+is_plain (Word name) = true
+is_plain (Number n) = true
+is_plain (Text bytes) = list_all is_text_byte bytes
+is_plain (Mark mark) = true
+
+abbrev pub IsPlain : Placed → Type 0
+IsPlain t = IsTrue (is_plain t.token)
 
 -- the limit that a token passes where so many tokens stand before it
 abbrev pub passed : ℕ → Token → Option Rule

@@ -1,8 +1,9 @@
 ghost use Rattle.std.specs.Prelude.{◌≡◌, ◌≤◌, ℕ, List, ◌⊎◌};
+ghost use Rattle.std.specs.List.{All};
 ghost use Rattle.hc_tree.specs.declared.place.Place.{Place};
 ghost use Rattle.hc_tree.specs.declared.refusal.Rule.{Rule};
 ghost use Rattle.hc_lex.specs.declared.token.Placed.{Placed};
-ghost use Rattle.hc_lex.specs.Lexes.{Lexes, Stops, HasTokens, HasBreach};
+ghost use Rattle.hc_lex.specs.Lexes.{Lexes, Stops, HasTokens, HasBreach, IsPlain};
 
 /// At most one list of tokens is related to given bytes, and one place of the end.
 pub fn one_reading()
@@ -24,4 +25,9 @@ pub fn tokens_or_breach()
 /// Bytes that have tokens within the limits have no breach.
 pub fn never_both()
     ensures { (before : ℕ) (at : Place) (bytes : List ℕ) → HasTokens before at bytes → HasBreach before at bytes → ⊥ }
+{}
+
+/// A text has bytes from 32 to 126 without `"`, `\` and `%` between its quotes.
+pub fn texts_are_plain()
+    ensures { (at : Place) (bytes : List ℕ) (ts : List Placed) (end : Place) → Lexes at bytes ts end → All IsPlain ts }
 {}
