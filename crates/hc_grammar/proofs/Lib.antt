@@ -1,0 +1,17 @@
+pub mod Words
+pub mod Same
+pub mod Endings
+pub mod Where
+pub mod Tried
+pub mod Follow
+pub mod Shortest
+pub mod Fits
+pub mod FitsExpression
+pub mod FitsDeclaration
+pub mod FitsStatement
+pub mod FitsItem
+pub mod Clear
+pub mod Computed
+pub mod Facts
+pub mod Rows
+pub mod Either
