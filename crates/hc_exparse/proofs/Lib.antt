@@ -1,0 +1,5 @@
+pub mod Walk
+pub mod Rows
+pub mod More
+pub mod Heads
+pub mod Parsed
