@@ -1,0 +1,5 @@
+pub mod Checked
+pub mod LeftOut
+pub mod Parsed
+pub mod Refused
+pub mod Stack
