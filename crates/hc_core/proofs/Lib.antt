@@ -1,2 +1,14 @@
-pub mod Rows
+pub mod Read
+pub mod Types
+pub mod Bounds
+pub mod Operands
+pub mod StatementBounds
+pub mod StatementOperands
+pub mod Listing
+pub mod ObjectBounds
 pub mod Straight
+pub mod RowsSound
+pub mod RowsWeight
+pub mod RowsZero
+pub mod RowsDepends
+pub mod RowsClock

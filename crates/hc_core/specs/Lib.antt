@@ -1,6 +1,15 @@
 pub mod Program
 pub mod Read
+pub mod Typed
+pub mod Parts
+pub mod Sound
+pub mod Zero
+pub mod Instant
+pub mod Depends
+pub mod Weight
+pub mod Weigh
+pub mod Built
+pub mod Residual
 pub mod Clock
 pub mod Run
-pub mod Sound
 pub mod Straight

@@ -1,13 +1,16 @@
-//! The core program: objects, expressions and statements as they are after expansion, and what they mean clock by
-//! clock. `specs/` has the meaning: numbers, the control of statements, the actions of a clock, and runs.
+//! The core program: objects, expressions and statements as they are after expansion, without names, macros and sugar.
+//! `specs/` has the definitions over it: the types of expressions, soundness, which statements may take no clock, which
+//! values within a clock depend on which, the weight, and what a program means clock by clock.
 #![tactic(auto)]
 
 mod expr;
 mod laws;
+mod measure;
 mod object;
 mod stmt;
 
-pub use expr::{BinOp, Expr};
-pub use laws::{every_clock_is_clean, runs_in_order};
-pub use object::{Core, Kind, Object, Objects};
-pub use stmt::{Stmt, Stmts, Target};
+pub use expr::{BinOp, Expr, UnOp};
+pub use laws::{every_clock_is_clean, runs_in_order, types_are_unique};
+pub use measure::{flops, weight};
+pub use object::{Core, Kind, Nums, Object, Objects, PinNames};
+pub use stmt::{Arm, Arms, Case, Cases, Stmt, Stmts, Target};

@@ -1,14 +1,15 @@
 -- The circuit of one action.
-use Rattle.std.proofs.Common.{◌≡◌, ◌≢◌, ◌<◌, ◌≤◌, ℕ, ◌+◌, ◌*◌, ◌^◌, List, [], ◌∷◌, length, map, get_or, Bool, true, false, refl, sym, ap, ◌∙◌, ⊎_elim, arith, get_or-set_same, get_or-set_other, length-set}
+use Rattle.std.proofs.Common.{◌≡◌, ◌≢◌, ◌<◌, ◌≤◌, ℕ, ◌+◌, ◌*◌, ◌^◌, List, [], ◌∷◌, length, map, get_or, Bool, true, false, refl, sym, ap, ◌∙◌, subst, ⊎_elim, arith, get_or-set_same, get_or-set_other, length-set}
 use Rattle.std.specs.Prelude.{slice_set, slice_index, All}
 use Rattle.std.proofs.lemmas.Bool.Decides.{eqb_tells}
 use Rattle.std.proofs.lemmas.List.{length-map, get_or-map}
 use Rattle.std.proofs.lemmas.Option.{slice_get_within}
-use Rattle.hc_core.specs.Program.{Expression, Assign, Delay}
+use Rattle.hc_core.specs.Residual.{Value, Assign, Delay, assigned, residual}
+use Rattle.hc_core.specs.Read.{target, statement}
 use Rattle.hc_core.specs.Clock.{Store, words, with_word}
-use Rattle.hc_core.specs.Run.{kinds_of}
+use Rattle.hc_core.specs.Typed.{kinds_of}
 use Rattle.hc_core.specs.declared.object.Core.{Core}
-use Rattle.hc_core.specs.Read.{expression, statement}
+use Rattle.hc_run.specs.Forms.{value_of, residual_of}
 use Rattle.hc_core.specs.declared.expr.Expr.{Expr}
 use Rattle.hc_tree.specs.declared.place.Place.{Place}
 use Rattle.hc_core.specs.declared.stmt.Stmt.{Stmt}
@@ -19,6 +20,7 @@ use Rattle.hc_net.specs.Bits.{number}
 use Rattle.hc_net.specs.Circuit.{Circuit}
 use Rattle.hc_run.specs.Grown.{Computes, Anything, choice_on}
 use Rattle.hc_run.specs.Objects.{store_on, value_on, sums, CanCompute, ComputesValue}
+use Rattle.hc_run.specs.FirstForm.{IsAction, IsRegisterTarget}
 use Rattle.hc_run.specs.Action.{number_at, AreNext, CanAct, Acts}
 use Rattle.hc_run.specs.declared.circuits.value.ObjectNets.{ObjectNets}
 use Rattle.hc_run.proofs.Grown.{AddsGates-none, AddsGates-more, AddsGates-length}
@@ -44,7 +46,7 @@ other_word : (objects : List (List ℕ)) (v : ℕ → Bool) (k j bits : ℕ) →
 other_word objects v k j bits h =
     ap (λ l. slice_index l 0) (get_or-set_other (store_on objects v) k j (slice_set (words (store_on objects v) k) 0 bits) [] h)
 
-pub can_compute : (core : Core) (at : ObjectNets) (now : Circuit) (token k : ℕ) (next : List (List ℕ)) (e : Expression) → CanAct core at now token next (Assign (Reg k) e) → CanCompute core at now.nodes e
+pub can_compute : (core : Core) (at : ObjectNets) (now : Circuit) (token k : ℕ) (next : List (List ℕ)) (e : Value) → CanAct core at now token next (Assign k e) → CanCompute core at now.nodes e
 can_compute core at now token k next e can = record {
   sound = can.sound;
   typed = (can.typed.0, can.typed.1, can.typed.3);
@@ -52,7 +54,7 @@ can_compute core at now token k next e can = record {
   room = let r = can.room in let b = can.brief in omega arith;
 }
 
-pub register_there : (core : Core) (at : ObjectNets) (now : Circuit) (token k : ℕ) (next : List (List ℕ)) (e : Expression) → CanAct core at now token next (Assign (Reg k) e) → k < length at.objects
+pub register_there : (core : Core) (at : ObjectNets) (now : Circuit) (token k : ℕ) (next : List (List ℕ)) (e : Value) → CanAct core at now token next (Assign k e) → k < length at.objects
 register_there core at now token k next e can =
     let inside = slice_get_within (kinds_of core.objects) k _ can.typed.2.1 in
     let all = can.nets.all in
@@ -70,11 +72,11 @@ same_false c x y v e = rw e refl
 same_true : (c : ℕ) (x y : List ℕ) (v : ℕ → Bool) → v c ≡ true → choice_on c x y v ≡ number (map v x)
 same_true c x y v e = rw e refl
 
-pub assign_acts : (core : Core) (at : ObjectNets) (c0 c1 c2 : Circuit) (token k : ℕ) (before after' : List (List ℕ)) (e : Expression) (z chosen : List ℕ)
-    → CanAct core at c0 token before (Assign (Reg k) e) → ComputesValue core at c0 c1 e z
+pub assign_acts : (core : Core) (at : ObjectNets) (c0 c1 c2 : Circuit) (token k : ℕ) (before after' : List (List ℕ)) (e : Value) (z chosen : List ℕ)
+    → CanAct core at c0 token before (Assign k e) → ComputesValue core at c0 c1 e z
     → Computes c1 c2 (3 * length z + 1) Anything (choice_on token z (get_or before k [])) (length z) chosen
     → length z ≡ length (get_or before k []) → length z ≤ 128
-    → after' ≡ slice_set before k chosen → Acts core at c0 c2 token before after' (Assign (Reg k) e)
+    → after' ≡ slice_set before k chosen → Acts core at c0 c2 token before after' (Assign k e)
 assign_acts core at c0 c1 c2 token k before after' e z chosen can fz fc same narrow is =
     let known = register_there core at c0 token k before e can in
     let inside : k < length before = let a = can.next.all in omega arith in
@@ -112,8 +114,8 @@ delay_acts core at c token next are = record {
 }
 
 -- the width of the value that is assigned
-pub assigned_width : (core : Core) (at : ObjectNets) (c0 c1 : Circuit) (token k : ℕ) (before : List (List ℕ)) (e : Expression) (z : List ℕ)
-    → CanAct core at c0 token before (Assign (Reg k) e) → ComputesValue core at c0 c1 e z → (length z ≡ length (get_or before k [])) × (length z ≤ 128)
+pub assigned_width : (core : Core) (at : ObjectNets) (c0 c1 : Circuit) (token k : ℕ) (before : List (List ℕ)) (e : Value) (z : List ℕ)
+    → CanAct core at c0 token before (Assign k e) → ComputesValue core at c0 c1 e z → (length z ≡ length (get_or before k [])) × (length z ≤ 128)
 assigned_width core at c0 c1 token k before e z can fz =
     let kinds = kinds_of core.objects in
     let width = can.typed.0 in
@@ -122,8 +124,8 @@ assigned_width core at c0 c1 token k before e z can fz =
     let n = narrow core e width can.typed.1 can.sound can.typed.3 in
     (w ∙ sym (can.next.widths k ∙ r), omega (arith, w, n))
 
-pub can_choose_room : (core : Core) (at : ObjectNets) (c0 c1 : Circuit) (token k : ℕ) (before : List (List ℕ)) (e : Expression) (z : List ℕ)
-    → CanAct core at c0 token before (Assign (Reg k) e) → ComputesValue core at c0 c1 e z → (length c1.nodes + 3 * length z + 1 < 2 ^ 32) × (length c0.nodes ≤ length c1.nodes)
+pub can_choose_room : (core : Core) (at : ObjectNets) (c0 c1 : Circuit) (token k : ℕ) (before : List (List ℕ)) (e : Value) (z : List ℕ)
+    → CanAct core at c0 token before (Assign k e) → ComputesValue core at c0 c1 e z → (length c1.nodes + 3 * length z + 1 < 2 ^ 32) × (length c0.nodes ≤ length c1.nodes)
 can_choose_room core at c0 c1 token k before e z can fz =
     let l1 = AddsGates-length c0 c1 (640 * sums e) fz.grows in
     let w = assigned_width core at c0 c1 token k before e z can fz in
@@ -131,19 +133,27 @@ can_choose_room core at c0 c1 token k before e z can fz =
     (omega arith, l1.0)
 
 -- the nets of the register that is written
-pub next_nets : (core : Core) (at : ObjectNets) (c0 : Circuit) (token k : ℕ) (before xs : List (List ℕ)) (e : Expression) (x : List ℕ)
-    → CanAct core at c0 token before (Assign (Reg k) e) → xs ≡ before → x ≡ get_or xs k x → x ≡ get_or before k []
+pub next_nets : (core : Core) (at : ObjectNets) (c0 : Circuit) (token k : ℕ) (before xs : List (List ℕ)) (e : Value) (x : List ℕ)
+    → CanAct core at c0 token before (Assign k e) → xs ≡ before → x ≡ get_or xs k x → x ≡ get_or before k []
 next_nets core at c0 token k before xs e x can is item =
     let known = register_there core at c0 token k before e can in
     let inside : k < length before = let a = can.next.all in omega arith in
     item_is before k x (item ∙ ap (λ l. get_or l k x) is) inside
 
--- What a part is as a statement.
-pub part_assign : (p : Stmt) (place : Place) (target : Target) (value : Expr) (k : ℕ) → p ≡ s.Assign place target value → target ≡ Reg k
-    → statement p ≡ Assign (Reg k) (expression value)
-unfolding statement
-part_assign p place target value k is to = ap statement is ∙ ap (λ t. Assign t (expression value)) to
+-- What is left of a part before its clock.
+pub part_assign : (x : Stmt) (place : Place) (to : Target) (v : Expr) (k : ℕ) → x ≡ s.Assign place to v → to ≡ Reg k
+    → residual_of x ≡ Assign k (value_of v)
+unfolding statement residual target
+part_assign x place to v k is e = ap residual_of is ∙ ap (λ t. assigned (target t) (value_of v)) e
 
-pub part_delay : (p : Stmt) (place : Place) → p ≡ s.Delay place → statement p ≡ Delay
-unfolding statement
-part_delay p place is = ap statement is
+pub part_delay : (x : Stmt) (place : Place) → x ≡ s.Delay place → residual_of x ≡ Delay
+unfolding statement residual
+part_delay x place is = ap residual_of is
+
+-- an assignment among the actions writes a register
+to_register : (place : Place) (to : Target) (v : Expr) → IsAction (s.Assign place to v) → IsRegisterTarget to
+to_register place (Reg k) v h = tt
+to_register place _ v h = absurd h
+
+pub writes_register : (x : Stmt) (place : Place) (to : Target) (v : Expr) → x ≡ s.Assign place to v → IsAction x → IsRegisterTarget to
+writes_register x place to v is h = to_register place to v (subst (λ (y : Stmt). IsAction y) is h)

@@ -6,9 +6,9 @@ use Rattle.std.proofs.lemmas.List.{length-map}
 use Rattle.std.proofs.lemmas.List.Elements.{All-nil}
 use Rattle.std.proofs.lemmas.List.FromFn.{length-range_with_len, get_or-range_with_len}
 use Rattle.hc_num.specs.Number.{Number}
-use Rattle.hc_core.specs.Run.{kinds_of}
-use Rattle.hc_core.specs.Sound.{IsKind, IsSound, IsTyped}
-use Rattle.hc_core.specs.Read.{statement}
+use Rattle.hc_core.specs.Typed.{kinds_of}
+use Rattle.hc_run.specs.Forms.{IsKind, HasForms, IsTyped}
+use Rattle.hc_run.specs.Forms.{residual_of}
 use Rattle.hc_core.specs.declared.object.Core.{Core}
 use Rattle.hc_core.specs.declared.object.Object.{Object}
 use Rattle.hc_core.specs.declared.object.Kind.{Kind}
@@ -22,6 +22,7 @@ use Rattle.hc_run.specs.Machine.{width_of, registers_from, nets_from, MakesRegis
 use Rattle.hc_run.specs.Progress.{Progress, CanChain}
 use Rattle.hc_run.specs.declared.circuits.value.ObjectNets.{ObjectNets}
 use Rattle.hc_core.specs.Straight.{actions}
+use Rattle.hc_run.proofs.BuiltForms.{has_forms}
 use Rattle.hc_run.proofs.Implements.{Ready}
 use Rattle.hc_run.proofs.Names.{few_registers}
 use Rattle.hc_run.proofs.Registers.{total, length-registers_from}
@@ -52,7 +53,7 @@ nets_below base n [] (suc k) le = All-nil (λ net. net < n)
 nets_below base n (x ∷ kinds) zero le = range_below base (width_of x) n (omega arith)
 nets_below base n (x ∷ kinds) (suc k) le = nets_below (base + width_of x) n kinds k (omega arith)
 
-widths : (core : Core) → IsSound core → (k width : ℕ) (signed : Bool) (init : Number) → slice_get (kinds_of core.objects) k ≡ Some (Reg width signed init) → width ≤ 128
+widths : (core : Core) → HasForms core → (k width : ℕ) (signed : Bool) (init : Number) → slice_get (kinds_of core.objects) k ≡ Some (Reg width signed init) → width ≤ 128
 widths core sound k width signed init there =
     let kind : IsKind (Reg width signed init) = sound.kinds k (Reg width signed init) there in
     rw (← kind.1) kind.0.most
@@ -61,19 +62,20 @@ pub can_chain : (core : Core) (place : Place) (parts : List Stmt) (c0 c1 : Circu
     → MakesRegisters (kinds_of core.objects) c0 c1 nets → CanChain core c1 nets parts
 can_chain core place parts c0 c1 nets form main none made =
     let kinds : List Kind = kinds_of core.objects in
+    let forms = has_forms core form.sound form.built in
     let same : form.parts ≡ parts = same_parts form.place place form.parts parts (sym form.main ∙ main) in
     let start : length c0.nodes ≡ 0 = ap length none in
     let nodes : c1.nodes ≡ registers_from 0 kinds = ap (λ (c : Circuit). c.nodes) made.adds ∙ ap (λ l. l ++ registers_from 0 kinds) none in
     let nets_are : nets ≡ nets_from 0 kinds = made.nets_are ∙ ap (λ n. nets_from n kinds) start in
     let size : length c1.nodes ≡ total kinds = ap length nodes ∙ length-registers_from 0 kinds in
-    let few = few_registers kinds (widths core form.sound) in
+    let few = few_registers kinds (widths core forms) in
     let n : length kinds ≡ length core.objects = length-map core.objects (λ (o : Object). o.kind) in
     let small : length c1.nodes ≤ 128 * length kinds = rw nodes few in
     let objects = form.few_objects in
     record {
-      sound = form.sound;
+      sound = forms;
       actions = subst (λ (l : List Stmt). All IsAction l) same form.actions;
-      typed = typed-parts kinds place parts (subst (λ (x : Stmt). IsTyped kinds (statement x)) main form.sound.main);
+      typed = typed-parts kinds place parts (subst (λ (x : Stmt). IsTyped kinds (residual_of x)) main forms.main);
       few = subst (λ (l : List Stmt). length l ≤ 200) same form.few_parts;
       all = ap length nets_are ∙ length-nets_from 0 kinds;
       width = λ k width signed init there. ap (λ (l : List (List ℕ)). length (slice_index_or l k [])) nets_are ∙ nets_width 0 kinds k width signed init there;
@@ -85,11 +87,11 @@ can_chain core place parts c0 c1 nets form main none made =
 pub ready : (core : Core) (place : Place) (parts : List Stmt) (label : List ℕ) (c0 c1 c2 : Circuit) (objects : List (List ℕ)) (at : ObjectNets) (last : ℕ) (next : List (List ℕ)) (ds : List ℕ)
     → IsFirstForm core → core.main ≡ s.Seq place parts → label ≡ core.clock → c0 ≡ record { clock = label; ports = []; nodes = [] }
     → MakesRegisters (kinds_of core.objects) c0 c1 objects → CanChain core c1 objects parts → at.objects ≡ objects
-    → Progress core at (map statement parts) c1 c2 (length parts) last next → ds ≡ flat_map (λ nets. nets) next
+    → Progress core at (map residual_of parts) c1 c2 (length parts) last next → ds ≡ flat_map (λ nets. nets) next
     → Ready core parts at c1 c2 last next ds
 ready core place parts label c0 c1 c2 objects at last next ds form main named start made can same progress flat = record {
-  sound = form.sound;
-  list = ap (λ (x : Stmt). actions (statement x)) main ∙ actions-parts place parts can.actions;
+  sound = has_forms core form.sound form.built;
+  list = ap (λ (x : Stmt). actions (residual_of x)) main ∙ actions-parts place parts can.actions;
   few = can.few;
   room = can.room;
   clock = ap (λ (c : Circuit). c.clock) made.adds ∙ ap (λ (c : Circuit). c.clock) start ∙ named;

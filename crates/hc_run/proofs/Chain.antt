@@ -6,12 +6,16 @@ use Rattle.std.proofs.lemmas.Bool.Decides.{eqb_tells}
 use Rattle.std.proofs.lemmas.List.FromFn.{map-range_with_len_more}
 use Rattle.std.proofs.lemmas.Option.{slice_get-get_or, slice_get-map}
 use Rattle.std.specs.Option.{option_map}
-use Rattle.hc_core.specs.Program.{Expression, Constant, Register, Binary, Statement}
-use Rattle.hc_core.specs.Read.{expression, statement}
+use Rattle.hc_core.specs.Program as p
+use Rattle.hc_core.specs.Read.{expression, target, statement}
+use Rattle.hc_core.specs.Residual.{Residual, value, residual}
+use Rattle.hc_core.specs.declared.expr.BinOp.TheVariants.{Add}
+use Rattle.hc_core.specs.declared.stmt.Target.TheVariants as t
+use Rattle.hc_run.specs.Forms.{residual_of}
 use Rattle.hc_core.specs.Clock.{words}
 use Rattle.hc_core.specs.Straight.{acted}
-use Rattle.hc_core.specs.Run.{kinds_of}
-use Rattle.hc_core.specs.Sound.{IsTyped}
+use Rattle.hc_core.specs.Typed.{kinds_of}
+use Rattle.hc_run.specs.Forms.{IsTyped}
 use Rattle.hc_core.specs.declared.object.Core.{Core}
 use Rattle.hc_core.specs.declared.stmt.Stmt.{Stmt}
 use Rattle.hc_core.specs.declared.stmt.Stmt.TheVariants as s
@@ -42,7 +46,7 @@ both_later t n =
     same_true m = ⊎_elim (λ yes. yes.0) (λ no. absurd (no.1 refl)) (eqb_tells m m)
 
 -- the constants and the first token
-pub begins : (core : Core) (actions : List Statement) (objects : List (List ℕ)) (parts : List Stmt) (c0 c1 c2 c3 : Circuit) (z o first : ℕ) → CanChain core c0 objects parts
+pub begins : (core : Core) (actions : List Residual) (objects : List (List ℕ)) (parts : List Stmt) (c0 c1 c2 c3 : Circuit) (z o first : ℕ) → CanChain core c0 objects parts
     → MakesGate Zero 0 0 c0 c1 z → MakesGate One 0 0 c1 c2 o → MakesToken 0 true z c2 c3 first
     → Progress core (record { objects = objects; zero = z; one = o }) actions c0 c3 0 first objects
 begins core actions objects parts c0 c1 c2 c3 z o first can gz go gt =
@@ -77,31 +81,29 @@ begins core actions objects parts c0 c1 c2 c3 z o first can gz go gt =
         gt.goes trace h e t ∙ gz.bit trace h e1 t ∙ sym (not_first t)
 
 -- a simple expression has at most one sum
-simple_brief : (e : Expression) → IsSimple e → sums e ≤ 1
-simple_brief (Constant n) h = omega arith
-simple_brief (Register k) h = omega arith
-simple_brief (Binary op (Constant n) b) h = absurd h
-simple_brief (Binary op (Register k) (Constant n)) h = omega arith
-simple_brief (Binary op (Register k) (Register j)) h = absurd h
-simple_brief (Binary op (Register k) (Binary op' a b)) h = absurd h
-simple_brief (Binary op (Binary op' a b) c) h = absurd h
+simple_brief : (x : p.Expression) → IsSimple x → sums (value x) ≤ 1
+unfolding value
+simple_brief (p.Constant n) h = omega arith
+simple_brief (p.Register k) h = omega arith
+simple_brief (p.Binary Add (p.Register k) (p.Constant n)) h = omega arith
+simple_brief _ h = absurd h
 
-brief_part : (p : Stmt) → IsAction p → IsBrief (statement p)
-unfolding statement
-brief_part (s.Assign place target value) h = simple_brief (expression value) h
+brief_part : (x : Stmt) → IsAction x → IsBrief (residual_of x)
+unfolding statement residual target
+brief_part (s.Assign place (t.Reg k) v) h = simple_brief (expression v) h
 brief_part (s.Delay place) h = tt
-brief_part (s.Seq' place m row) h = absurd h
+brief_part _ h = absurd h
 
 -- what it takes to build the next action
-pub can_act : (core : Core) (at : ObjectNets) (actions : List Statement) (objects : List (List ℕ)) (parts : List Stmt) (c0 now : Circuit) (n token : ℕ) (next : List (List ℕ)) (p : Stmt)
-    → CanChain core c0 objects parts → Progress core at actions c0 now n token next → n < length parts → p ≡ get_or parts n p → CanAct core at now token next (statement p)
+pub can_act : (core : Core) (at : ObjectNets) (actions : List Residual) (objects : List (List ℕ)) (parts : List Stmt) (c0 now : Circuit) (n token : ℕ) (next : List (List ℕ)) (p : Stmt)
+    → CanChain core c0 objects parts → Progress core at actions c0 now n token next → n < length parts → p ≡ get_or parts n p → CanAct core at now token next (residual_of p)
 can_act core at actions objects parts c0 now n token next p can pr inside is =
     let l = Adds-length c0 now (1026 * n + 3) _ pr.adds in
     let few = can.few in
     let room = can.room in
     record {
       sound = can.sound;
-      typed = subst (λ (q : Stmt). IsTyped (kinds_of core.objects) (statement q)) (sym is) (can.typed n p inside);
+      typed = subst (λ (q : Stmt). IsTyped (kinds_of core.objects) (residual_of q)) (sym is) (can.typed n p inside);
       brief = brief_part p (subst (λ (q : Stmt). IsAction q) (sym is) (can.actions n p inside));
       nets = pr.nets;
       token_there = pr.token_there;
@@ -113,17 +115,17 @@ pub is_action : (core : Core) (objects : List (List ℕ)) (parts : List Stmt) (c
 is_action core objects parts c0 n p can inside is = subst (λ (q : Stmt). IsAction q) (sym is) (can.actions n p inside)
 
 -- the actions so far, with one more
-at_end : (l : List Statement) (n : ℕ) → slice_get (take (suc n) l) n ≡ slice_get l n
+at_end : (l : List Residual) (n : ℕ) → slice_get (take (suc n) l) n ≡ slice_get l n
 at_end [] n = refl
 at_end (x ∷ l) zero = refl
 at_end (x ∷ l) (suc n) = at_end l n
 
-past_end : (l : List Statement) (n : ℕ) → slice_get (take n l) n ≡ None
+past_end : (l : List Residual) (n : ℕ) → slice_get (take n l) n ≡ None
 past_end l zero = refl
 past_end [] (suc n) = refl
 past_end (x ∷ l) (suc n) = past_end l n
 
-elsewhere : (l : List Statement) (n t : ℕ) → t ≢ n → slice_get (take (suc n) l) t ≡ slice_get (take n l) t
+elsewhere : (l : List Residual) (n t : ℕ) → t ≢ n → slice_get (take (suc n) l) t ≡ slice_get (take n l) t
 elsewhere [] zero t h = refl
 elsewhere [] (suc n) t h = refl
 elsewhere (x ∷ l) zero zero h = absurd (h refl)
@@ -133,12 +135,12 @@ elsewhere (x ∷ l) (suc n) (suc t) h = elsewhere l n t (λ e. h (ap (λ k. suc 
 
 -- one more action and its token
 pub advances : (core : Core) (at : ObjectNets) (objects : List (List ℕ)) (parts : List Stmt) (c0 now mid new : Circuit) (n holder token : ℕ) (next next' : List (List ℕ)) (p : Stmt)
-    → CanChain core c0 objects parts → Progress core at (map statement parts) c0 now n holder next → n < length parts → p ≡ get_or parts n p
-    → Acts core at now mid holder next next' (statement p) → MakesToken (n + 1) false holder mid new token
-    → Progress core at (map statement parts) c0 new (n + 1) token next'
+    → CanChain core c0 objects parts → Progress core at (map residual_of parts) c0 now n holder next → n < length parts → p ≡ get_or parts n p
+    → Acts core at now mid holder next next' (residual_of p) → MakesToken (n + 1) false holder mid new token
+    → Progress core at (map residual_of parts) c0 new (n + 1) token next'
 advances core at objects parts c0 now mid new n holder token next next' p can pr inside is acts tk =
-    let list : List Statement = map statement parts in
-    let here : slice_get list n ≡ Some (statement p) = slice_get-map statement parts n ∙ ap (option_map statement) (slice_get-get_or parts n p inside ∙ ap Some (sym is)) in
+    let list : List Residual = map residual_of parts in
+    let here : slice_get list n ≡ Some (residual_of p) = slice_get-map residual_of parts n ∙ ap (option_map residual_of) (slice_get-get_or parts n p inside ∙ ap Some (sym is)) in
     let l1 = AddsGates-length now mid 1025 acts.grows in
     let l2 = Adds-length mid new 1 _ tk.adds in
     let one : n + 1 ≡ suc n = add-one n in
@@ -163,7 +165,7 @@ advances core at objects parts c0 now mid new n holder token next next' p can pr
           let em = tk.adds.earlier trace h e in
           let en = acts.grows.earlier trace h em in
           let kinds = kinds_of core.objects in
-          let word : Option Statement → ℕ = λ o. slice_index (words (acted kinds o (store_on at.objects (h t))) k) 0 in
+          let word : Option Residual → ℕ = λ o. slice_index (words (acted kinds o (store_on at.objects (h t))) k) 0 in
           ⊎_elim
           (λ yes.
           let on : h t holder ≡ true = pr.token_holds trace h en t ∙ yes.0 in
@@ -188,7 +190,7 @@ advances core at objects parts c0 now mid new n holder token next next' p can pr
         tk.goes trace h e t ∙ pr.token_holds trace h en t ∙ sym (both_later t n)
 
 -- room for the next token
-pub token_room : (core : Core) (at : ObjectNets) (actions : List Statement) (objects : List (List ℕ)) (parts : List Stmt) (c0 now mid : Circuit) (n token : ℕ) (next next' : List (List ℕ)) (a : Statement)
+pub token_room : (core : Core) (at : ObjectNets) (actions : List Residual) (objects : List (List ℕ)) (parts : List Stmt) (c0 now mid : Circuit) (n token : ℕ) (next next' : List (List ℕ)) (a : Residual)
     → CanChain core c0 objects parts → Progress core at actions c0 now n token next → n < length parts → Acts core at now mid token next next' a
     → (length mid.nodes + 1 < 2 ^ 32) × (token < length mid.nodes)
 token_room core at actions objects parts c0 now mid n token next next' a can pr inside acts =

@@ -5,14 +5,14 @@ use Rattle.hc_outside.specs.Count.{HasRisen, Moves, IsCount}
 use Rattle.hc_outside.specs.Store.{Disk, StoreState, IsFile, IsMissing, IsLonger, SameFiles}
 use Rattle.hc_outside.specs.Sink.{SinkState}
 use Rattle.hc_core.specs.declared.object.Core.{Core}
+use Rattle.hc_tree.specs.declared.refusal.Refusal.{Refusal}
 use Rattle.hc_net.specs.declared.net.RawNet.{RawNet}
 use Rattle.hc_run.specs.declared.status.Role.{Role}
 use Rattle.hc_run.specs.declared.status.Role.TheVariants.{Source}
 use Rattle.hc_run.specs.declared.status.Status.{Status}
 use Rattle.hc_run.specs.declared.status.Status.TheVariants.{Done, Refused, Usage, ReadFault, WriteFault, NoMemory, Longer}
-use Rattle.hc_run.specs.FirstForm.{first_form}
 use Rattle.hc_run.specs.Words.{IsBuild, HasNoJob}
-use Rattle.hc_run.specs.Answer.{source_limit, not_built, Accepted, Compiles, IsWriteFault, IsNoMemory, IsDue, IsCutOff, Prints, MovesCounts, HasFile, LineFails, LoadFails, KeepsFiles}
+use Rattle.hc_run.specs.Answer.{source_limit, Accepted, First, Compiles, IsWriteFault, IsNoMemory, IsDue, IsCutOff, Prints, MovesCounts, HasFile, LineFails, LoadFails, KeepsFiles}
 use Rattle.hc_run.specs.Steps.{Reports, written, stopped_by_fault, stopped_by_memory, Answers, told, fault, no_memory, cut_by_fault, cut_by_memory}
 use Rattle.hc_run.proofs.Jobs.{SameFiles-none}
 
@@ -187,52 +187,60 @@ longer_where words old new out out' result h file name bytes job there over =
 
 -- a source that is refused
 
-no_core : (bytes : List ℕ) (core : Core) → first_form bytes ≡ None → Accepted bytes core → ⊥
-no_core bytes core none some = cc
+-- the laws of sources: one first refusal, and none where there is a core
+abbrev pub OneFirst : Type 0
+OneFirst = (bytes : List ℕ) (refusal other : Refusal) → First bytes refusal → First bytes other → refusal ≡ other
 
-refused_due : (words : List (List ℕ)) (old new : StoreState) (bytes : List ℕ) → Given words old bytes → length bytes ≤ source_limit → first_form bytes ≡ None
-    → (due : Status) (line : List ℕ) → IsDue words old new due line → (due ≡ Refused not_built) ⊎ LoadFails old new due
-refused_due words old new bytes given within none Done line h =
-    absurd (no_core bytes h.compiles.core none (subst (λ (b : List ℕ). Accepted b h.compiles.core) (given_compiles words old bytes h.name h.raw given h.compiles) h.compiles.accepted))
-refused_due words old new bytes given within none (Refused refusal) line h = inl (ap Refused h.first.is)
-refused_due words old new bytes given within none Usage line h = absurd (h.no_job _ _ given.job)
-refused_due words old new bytes given within none (ReadFault role) line h = inr (given_fault words old new bytes h.file h.name given h.job h.cause)
-refused_due words old new bytes given within none (Longer role) line h =
+abbrev pub NeverBoth : Type 0
+NeverBoth = (bytes : List ℕ) (core : Core) (refusal : Refusal) → Accepted bytes core → First bytes refusal → ⊥
+
+compiles-refused : NeverBoth → (words : List (List ℕ)) (old : StoreState) (bytes name : List ℕ) (raw : RawNet) (refusal : Refusal) → Given words old bytes → First bytes refusal → Compiles words old name raw → ⊥
+compiles-refused both words old bytes name raw refusal given first h =
+    both bytes h.core refusal (subst (λ (b : List ℕ). Accepted b h.core) (given_compiles words old bytes name raw given h) h.accepted) first
+
+refused_due : OneFirst → NeverBoth → (words : List (List ℕ)) (old new : StoreState) (bytes : List ℕ) (refusal : Refusal) → Given words old bytes → length bytes ≤ source_limit → First bytes refusal
+    → (due : Status) (line : List ℕ) → IsDue words old new due line → (due ≡ Refused refusal) ⊎ LoadFails old new due
+refused_due one both words old new bytes refusal given within first Done line h = absurd (compiles-refused both words old bytes h.name h.raw refusal given first h.compiles)
+refused_due one both words old new bytes refusal given within first (Refused other) line h =
+    inl (ap Refused (one bytes other refusal (subst (λ (b : List ℕ). First b other) (given_bytes words old bytes h.file h.name h.bytes given h.job h.source) h.first) first))
+refused_due one both words old new bytes refusal given within first Usage line h = absurd (h.no_job _ _ given.job)
+refused_due one both words old new bytes refusal given within first (ReadFault role) line h = inr (given_fault words old new bytes h.file h.name given h.job h.cause)
+refused_due one both words old new bytes refusal given within first (Longer role) line h =
     let over = given_longer words old bytes h.file h.name given h.job h.longer in absurd (omega arith)
-refused_due words old new bytes given within none WriteFault line h = absurd h
-refused_due words old new bytes given within none NoMemory line h = absurd h
+refused_due one both words old new bytes refusal given within first WriteFault line h = absurd h
+refused_due one both words old new bytes refusal given within first NoMemory line h = absurd h
 
-pub refused_where : (words : List (List ℕ)) (old new : StoreState) (out out' : SinkState) (result : Status)
-    → Answers words old new out out' result → (file name bytes : List ℕ) → IsBuild words file name → HasFile old.disk file bytes → length bytes ≤ source_limit → first_form bytes ≡ None
-    → (result ≡ Refused not_built) ⊎ LoadFails old new result ⊎ LineFails out out' result
-refused_where words old new out out' result h file name bytes job there within none =
+pub refused_where : OneFirst → NeverBoth → (words : List (List ℕ)) (old new : StoreState) (out out' : SinkState) (result : Status)
+    → Answers words old new out out' result → (file name bytes : List ℕ) (refusal : Refusal) → IsBuild words file name → HasFile old.disk file bytes → length bytes ≤ source_limit → First bytes refusal
+    → (result ≡ Refused refusal) ⊎ LoadFails old new result ⊎ LineFails out out' result
+refused_where one both words old new out out' result h file name bytes refusal job there within first =
     let given : Given words old bytes = record { file = file; name = name; job = job; there = there } in
-    split (where_due words old new out out' result (λ s. (s ≡ Refused not_built) ⊎ LoadFails old new s) (refused_due words old new bytes given within none)
-    (λ w. no_core bytes w.compiles.core none (subst (λ (b : List ℕ). Accepted b w.compiles.core) (given_compiles words old bytes w.name w.raw given w.compiles) w.compiles.accepted)) h)
+    split (where_due words old new out out' result (λ s. (s ≡ Refused refusal) ⊎ LoadFails old new s) (refused_due one both words old new bytes refusal given within first)
+    (λ w. compiles-refused both words old bytes w.name w.raw refusal given first w.compiles) h)
 
 -- completeness
 
-done_due : (words : List (List ℕ)) (old new : StoreState) (bytes : List ℕ) (core : Core) → Given words old bytes → length bytes ≤ source_limit → Accepted bytes core
+done_due : NeverBoth → (words : List (List ℕ)) (old new : StoreState) (bytes : List ℕ) (core : Core) → Given words old bytes → length bytes ≤ source_limit → Accepted bytes core
     → (HasRisen old.reads new.reads → ⊥) → (due : Status) (line : List ℕ) → IsDue words old new due line → due ≡ Done
-done_due words old new bytes core given within some no_fault Done line h = refl
-done_due words old new bytes core given within some no_fault (Refused refusal) line h =
-    absurd (no_core h.bytes core h.first.no_core (subst (λ (b : List ℕ). Accepted b core) (sym (given_bytes words old bytes h.file h.name h.bytes given h.job h.source)) some))
-done_due words old new bytes core given within some no_fault Usage line h = absurd (h.no_job _ _ given.job)
-done_due words old new bytes core given within some no_fault (ReadFault role) line h = absurd (no_fault (given_fault words old new bytes h.file h.name given h.job h.cause))
-done_due words old new bytes core given within some no_fault (Longer role) line h =
+done_due both words old new bytes core given within some no_fault Done line h = refl
+done_due both words old new bytes core given within some no_fault (Refused refusal) line h =
+    absurd (both bytes core refusal some (subst (λ (b : List ℕ). First b refusal) (given_bytes words old bytes h.file h.name h.bytes given h.job h.source) h.first))
+done_due both words old new bytes core given within some no_fault Usage line h = absurd (h.no_job _ _ given.job)
+done_due both words old new bytes core given within some no_fault (ReadFault role) line h = absurd (no_fault (given_fault words old new bytes h.file h.name given h.job h.cause))
+done_due both words old new bytes core given within some no_fault (Longer role) line h =
     let over = given_longer words old bytes h.file h.name given h.job h.longer in absurd (omega arith)
-done_due words old new bytes core given within some no_fault WriteFault line h = absurd h
-done_due words old new bytes core given within some no_fault NoMemory line h = absurd h
+done_due both words old new bytes core given within some no_fault WriteFault line h = absurd h
+done_due both words old new bytes core given within some no_fault NoMemory line h = absurd h
 
-pub completeness : (words : List (List ℕ)) (old new : StoreState) (out out' : SinkState) (result : Status)
+pub completeness : NeverBoth → (words : List (List ℕ)) (old new : StoreState) (out out' : SinkState) (result : Status)
     → Answers words old new out out' result → (file name bytes : List ℕ) (core : Core) → IsBuild words file name → HasFile old.disk file bytes → length bytes ≤ source_limit → Accepted bytes core
     → (HasRisen old.reads new.reads → ⊥) → (HasRisen old.writes new.writes → ⊥) → (HasRisen out.faults out'.faults → ⊥) → (result ≡ Done) ⊎ (result ≡ NoMemory)
-completeness words old new out out' result (told line known wrote) file name bytes core job there within some reads writes faults =
-    inl (done_due words old new bytes core (record { file = file; name = name; job = job; there = there }) within some reads result line known)
-completeness words old new out out' result (fault is h same) file name bytes core job there within some reads writes faults = absurd (writes h.cause)
-completeness words old new out out' result (no_memory is h same) file name bytes core job there within some reads writes faults = inr is
-completeness words old new out out' result (cut_by_fault is risen cut) file name bytes core job there within some reads writes faults = absurd (faults risen)
-completeness words old new out out' result (cut_by_memory is cut) file name bytes core job there within some reads writes faults = inr is
+completeness both words old new out out' result (told line known wrote) file name bytes core job there within some reads writes faults =
+    inl (done_due both words old new bytes core (record { file = file; name = name; job = job; there = there }) within some reads result line known)
+completeness both words old new out out' result (fault is h same) file name bytes core job there within some reads writes faults = absurd (writes h.cause)
+completeness both words old new out out' result (no_memory is h same) file name bytes core job there within some reads writes faults = inr is
+completeness both words old new out out' result (cut_by_fault is risen cut) file name bytes core job there within some reads writes faults = absurd (faults risen)
+completeness both words old new out out' result (cut_by_memory is cut) file name bytes core job there within some reads writes faults = inr is
 
 -- The files.
 

@@ -7,12 +7,13 @@ use Rattle.std.proofs.lemmas.List.{get_or-map, length-map, take_all}
 use Rattle.std.proofs.lemmas.List.FromFn.{length-range_with_len}
 use Rattle.std.proofs.lemmas.Option.{slice_get-get_or, slice_get_within, get_or_from_slice_get}
 use Rattle.hc_num.specs.Number.{Number}
-use Rattle.hc_core.specs.Program.{Statement}
-use Rattle.hc_core.specs.Read.{statement}
+use Rattle.hc_core.specs.Residual.{Residual}
+use Rattle.hc_run.specs.Forms.{residual_of}
 use Rattle.hc_core.specs.Clock.{Store, words, initial}
 use Rattle.hc_core.specs.Straight.{actions, acted, store_at}
-use Rattle.hc_core.specs.Run.{Run, kinds_of}
-use Rattle.hc_core.specs.Sound.{IsKind, IsSound}
+use Rattle.hc_core.specs.Run.{Run}
+use Rattle.hc_core.specs.Typed.{kinds_of}
+use Rattle.hc_run.specs.Forms.{IsKind, HasForms}
 use Rattle.hc_core.specs.declared.object.Kind.{Kind}
 use Rattle.hc_core.specs.declared.object.Kind.TheVariants.{Reg}
 use Rattle.hc_core.specs.declared.object.Object.{Object}
@@ -42,15 +43,15 @@ use Rattle.hc_run.proofs.Stores.{AreRegisters, same_store, registers_on, registe
 
 -- What `build` has made before the registers are fed.
 pub record Ready (core : Core) (parts : List Stmt) (at : ObjectNets) (c1 c2 : Circuit) (last : ℕ) (next : List (List ℕ)) (ds : List ℕ) : Type 0 where
-  pub sound : IsSound core
-  pub list : actions (statement core.main) ≡ map statement parts
+  pub sound : HasForms core
+  pub list : actions (residual_of core.main) ≡ map residual_of parts
   pub few : length parts ≤ 200
   pub room : length c1.nodes + 206500 < 2 ^ 32
   pub clock : c1.clock ≡ core.clock
   pub ports : c1.ports ≡ []
   pub registers : c1.nodes ≡ registers_from 0 (kinds_of core.objects)
   pub objects : at.objects ≡ nets_from 0 (kinds_of core.objects)
-  pub progress : Progress core at (map statement parts) c1 c2 (length parts) last next
+  pub progress : Progress core at (map residual_of parts) c1 c2 (length parts) last next
   pub flat : ds ≡ flat_map (λ nets. nets) next
 
 module _ (core : Core) (parts : List Stmt) (at : ObjectNets) (c1 c2 : Circuit) (last : ℕ) (next : List (List ℕ)) (ds : List ℕ) (r : Ready core parts at c1 c2 last next ds) where
@@ -224,31 +225,31 @@ module _ (core : Core) (parts : List Stmt) (at : ObjectNets) (c1 c2 c3 : Circuit
 
     first_store : store_on at.objects (h 0) ≡ initial core.objects
     unfolding kinds
-    first_store = same_store (length core.objects) _ _ (subst (λ n. AreRegisters n (store_on at.objects (h 0))) same_size (registers_on at.objects (h 0))) (registers_initial core.objects)
+    first_store = same_store (length core.objects) _ _ (subst (λ n. AreRegisters n (store_on at.objects (h 0))) same_size (registers_on at.objects (h 0))) (registers_initial core.objects b.ready.sound.kinds)
         (λ k inside.
-        let start = initial_word core.objects k inside in
+        let start = initial_word core.objects b.ready.sound.kinds k inside in
         word_at at.objects (h 0) k (let s = same_size in omega arith) ∙ first_number k start.0 start.1 start.2 start.3 ∙ sym start.4)
 
     -- and at every edge it has that of the run
-    each_store : (t : ℕ) → store_on at.objects (h t) ≡ store_at kinds (map statement parts) (initial core.objects) t
+    each_store : (t : ℕ) → store_on at.objects (h t) ≡ store_at kinds (map residual_of parts) (initial core.objects) t
     unfolding kinds
     each_store zero = first_store
     each_store (suc t) =
-        let list : List Statement = map statement parts in
+        let list : List Residual = map residual_of parts in
         let before = each_store t in
-        let o : Option Statement = slice_get list t in
+        let o : Option Residual = slice_get list t in
         same_store (length at.objects) _ _ (registers_on at.objects (h (suc t)))
         (subst (λ (s : Store). AreRegisters (length at.objects) (acted kinds o s)) before (registers_acted (length at.objects) kinds o (store_on at.objects (h t)) (registers_on at.objects (h t))))
         (λ k inside.
         word_at at.objects (h (suc t)) k inside
         ∙ edge t k
         ∙ b.ready.progress.next_are trace h e2 t k inside
-        ∙ ap (λ (l : List Statement). slice_index (words (acted kinds (slice_get l t) (store_on at.objects (h t))) k) 0) (take_all (length parts) list (let n = length-map parts statement in omega arith))
+        ∙ ap (λ (l : List Residual). slice_index (words (acted kinds (slice_get l t) (store_on at.objects (h t))) k) 0) (take_all (length parts) list (let n = length-map parts residual_of in omega arith))
         ∙ ap (λ (s : Store). slice_index (words (acted kinds o s) k) 0) before)
 
   -- ---- The netlist
 
-  module _ (raw : RawNet) (seals : Seals c3 raw) (in_order : (trace : ℕ → List ℕ) (n : ℕ) (run : Run core trace n) (t : ℕ) → t ≤ n → (run.state t).store ≡ store_at (kinds_of core.objects) (actions (statement core.main)) (initial core.objects) t) where
+  module _ (raw : RawNet) (seals : Seals c3 raw) (in_order : (trace : ℕ → List ℕ) (n : ℕ) (run : Run core trace n) (t : ℕ) → t ≤ n → (run.state t).store ≡ store_at (kinds_of core.objects) (actions (residual_of core.main)) (initial core.objects) t) where
     history : Trace → History
     history trace = λ t k. net_bit (values_at raw trace t) (seals.place k)
 
@@ -270,7 +271,7 @@ module _ (core : Core) (parts : List Stmt) (at : ObjectNets) (c1 c2 c3 : Circuit
     unfolding history kinds
     store_of trace n run t le =
         each_store trace (history trace) (seals.explains trace) t
-        ∙ ap (λ (l : List Statement). store_at (kinds_of core.objects) l (initial core.objects) t) (sym b.ready.list)
+        ∙ ap (λ (l : List Residual). store_at (kinds_of core.objects) l (initial core.objects) t) (sym b.ready.list)
         ∙ sym (in_order trace n run t le)
 
     pub implements : Implements core raw

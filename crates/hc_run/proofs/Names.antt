@@ -1,5 +1,5 @@
 -- The flip-flops of the objects: their nets, and their names, which differ.
-use Rattle.std.proofs.Common.{◌≡◌, ◌≢◌, ◌<◌, ◌≤◌, ℕ, zero, suc, ◌+◌, ◌*◌, ◌⊎◌, List, [], ◌∷◌, ◌++◌, length, map, Bool, Some, None, refl, sym, ap, ◌∙◌, subst, inl, inr, arith, append_assoc, length-append}
+use Rattle.std.proofs.Common.{◌≡◌, ◌≢◌, ◌<◌, ◌≤◌, ℕ, zero, suc, ◌+◌, ◌*◌, ◌⊎◌, List, [], ◌∷◌, ◌++◌, length, map, Bool, Some, None, refl, sym, ap, ◌∙◌, subst, inl, inr, arith, append_assoc, length-append, false}
 use Rattle.std.specs.Prelude.{slice_get, slice_index, slice_index_or, ◌==◌}
 use Rattle.std.specs.List.{range_with_len, flat_map, sum_by}
 use Rattle.std.proofs.lemmas.List.{get_or_append_left, get_or-append-add}
@@ -105,6 +105,8 @@ bits_distinct k init a (suc n) ys fs later =
 names_distinct : (k : ℕ) (kinds : List Kind) (m : ℕ) → Distinct (flops_of (registers_from k kinds) ++ tokens m) × EachName (FromBit k 0) (flops_of (registers_from k kinds) ++ tokens m)
 names_distinct k [] m = let d = tokens_distinct 0 m in (d.0, each_weaker (FromToken 0) (FromBit k 0) (bit_of_token k 0) (tokens m) d.1)
 names_distinct k (Reg width signed init ∷ kinds) m = bits_distinct k init 0 width (registers_from (k + 1) kinds) (tokens m) (names_distinct (k + 1) kinds m)
+names_distinct k (_ ∷ kinds) m =
+    bits_distinct k (record { width = 0; signed = false; bits = 0 }) 0 0 (registers_from (k + 1) kinds) (tokens m) (names_distinct (k + 1) kinds m)
 
 pub distinct_names : (kinds : List Kind) (m i j : ℕ) (f g : FlopName × Bool) → i < j → slice_get (flops_of (registers_from 0 kinds) ++ tokens m) i ≡ Some f → slice_get (flops_of (registers_from 0 kinds) ++ tokens m) j ≡ Some g → f.0 ≢ g.0
 distinct_names kinds m i j f g lower at_i at_j = distinct_at _ i j f g lower (names_distinct 0 kinds m).0 at_i at_j
@@ -119,6 +121,7 @@ bits_unfed k init (x ∷ xs) ys (suc n) later low = bits_unfed k init xs ys n la
 unfed_from : (k : ℕ) (kinds : List Kind) (n : ℕ) → n < length (registers_from k kinds) → IsUnfed (node_at (registers_from k kinds) n)
 unfed_from k [] n low = absurd (omega arith)
 unfed_from k (Reg width signed init ∷ kinds) n low = bits_unfed k init (range_with_len 0 width) (registers_from (k + 1) kinds) n (unfed_from (k + 1) kinds) low
+unfed_from k (_ ∷ kinds) n low = unfed_from (k + 1) kinds n low
 
 pub registers_unfed : (kinds : List Kind) (rest : List Node) (n : ℕ) → n < length (registers_from 0 kinds) → IsUnfed (node_at (registers_from 0 kinds ++ rest) n)
 registers_unfed kinds rest n low = subst (λ (node : Node). IsUnfed node) (sym (get_or_append_left (registers_from 0 kinds) rest _ n low)) (unfed_from 0 kinds n low)
@@ -126,6 +129,7 @@ registers_unfed kinds rest n low = subst (λ (node : Node). IsUnfed node) (sym (
 -- how many there are
 pub length-register_flops : (k : ℕ) (kind : Kind) → length (register_flops k kind) ≡ width_of kind
 length-register_flops k (Reg width signed init) = length-map-range_with_len _ 0 width
+length-register_flops k _ = refl
 
 pub length-registers_from : (k : ℕ) (kind : Kind) (kinds : List Kind) → length (registers_from k (kind ∷ kinds)) ≡ width_of kind + length (registers_from (k + 1) kinds)
 length-registers_from k kind kinds = length-append (register_flops k kind) (registers_from (k + 1) kinds) ∙ ap (λ n. n + length (registers_from (k + 1) kinds)) (length-register_flops k kind)
@@ -145,6 +149,10 @@ few_from k most (Reg width signed init ∷ kinds) widths =
     let first = widths 0 width signed init refl in
     let rest = few_from (k + 1) most kinds (λ j. widths (suc j)) in
     let size = length-registers_from k (Reg width signed init) kinds in
+    let product : most * suc (length kinds) ≡ most + most * length kinds = omega arith in
+    omega arith
+few_from k most (_ ∷ kinds) widths =
+    let rest = few_from (k + 1) most kinds (λ j. widths (suc j)) in
     let product : most * suc (length kinds) ≡ most + most * length kinds = omega arith in
     omega arith
 
@@ -198,6 +206,7 @@ register_from (Reg w s start ∷ kinds) first base before rest zero width i sign
     ∙ bit_at first start w i base before (registers_from (first + 1) kinds ++ rest) size (omega arith)
     ∙ ap (λ (n : Number). Some (Flop (Bit first i) (bit n.bits i) None)) same_init
     ∙ ap (λ n. Some (Flop (Bit n i) (bit init.bits i) None)) (sym number)
+register_from (_ ∷ kinds) first base before rest zero width i signed init size at low = absurd cc
 register_from (kind ∷ kinds) first base before rest (suc k) width i signed init size at low =
     let number : first + 1 + k ≡ first + suc k = omega arith in
     let flops = register_flops first kind in

@@ -13,8 +13,8 @@ use Rattle.hc_core.specs.declared.object.Kind.{Kind}
 use Rattle.hc_core.specs.declared.object.Kind.TheVariants.{Reg}
 use Rattle.hc_core.specs.declared.object.Object.{Object}
 use Rattle.hc_core.specs.declared.object.Core.{Core}
-use Rattle.hc_core.specs.Sound.{IsKind, IsSound}
-use Rattle.hc_core.specs.Run.{kinds_of}
+use Rattle.hc_run.specs.Forms.{IsKind, HasForms}
+use Rattle.hc_core.specs.Typed.{kinds_of}
 use Rattle.std.specs.Option.{option_map}
 use Rattle.std.proofs.Math.Seq.{take-length}
 use Rattle.std.proofs.lemmas.List.{map_more, length-map, length-take-le}
@@ -127,8 +127,9 @@ some_more done done' kind k width bits old now new nets nets' z s is at w f narr
 -- widths are at most 128
 narrow_kind : (kind : Kind) → IsKind kind → width_of kind ≤ 128
 narrow_kind (Reg width signed init) h = let m = h.0.most in rw (← h.1) m
+narrow_kind _ h = absurd h
 
-pub narrow_object : (core : Core) (k : ℕ) (o : Object) → IsSound core → k < length core.objects → o ≡ get_or core.objects k o → width_of o.kind ≤ 128
+pub narrow_object : (core : Core) (k : ℕ) (o : Object) → HasForms core → k < length core.objects → o ≡ get_or core.objects k o → width_of o.kind ≤ 128
 narrow_object core k o sound inside at =
     let there : slice_get (kinds_of core.objects) k ≡ Some o.kind =
     slice_get-map (λ (x : Object). x.kind) core.objects k ∙ ap (option_map (λ (x : Object). x.kind)) (slice_get-get_or core.objects k o inside ∙ ap Some (sym at)) in

@@ -4,7 +4,7 @@ use Rattle.std.proofs.Common.{arith}
 use Rattle.std.proofs.lemmas.Fmt.{decimal_digit}
 use Rattle.hc_run.specs.declared.status.Role.TheVariants.{Source}
 use Rattle.hc_run.specs.Words.{IsBuild, HasNoJob}
-use Rattle.hc_run.specs.Refused.{rule_name, node_mark, node_text, detail_text, refusal_line}
+use Rattle.hc_run.specs.Refused.{rule_name, detail_text, refusal_line}
 use Rattle.hc_run.specs.Lines.{built_line, role_name, read_fault_line, longer_line}
 use Rattle.hc_run.specs.Answer.{not_built}
 
@@ -12,9 +12,9 @@ row_built : built_line 6 8 ≡ codes "built: gates 6, flip-flops 8, rams 0\n"
 unfolding built_line
 row_built = rw (decimal_digit 6 (omega arith), decimal_digit 8 (omega arith)) refl
 
-row_refused : refusal_line not_built ≡ codes "refused NotBuilt at 1:1\n"
+row_refused : refusal_line (not_built (record { line = 3; column = 1 })) ≡ codes "refused NotBuilt at 3:1\n"
 unfolding refusal_line rule_name detail_text
-row_refused = rw (decimal_digit 1 (omega arith)) refl
+row_refused = rw (decimal_digit 3 (omega arith), decimal_digit 1 (omega arith)) refl
 
 row_read_fault : read_fault_line Source ≡ codes "read fault: source\n"
 unfolding read_fault_line role_name

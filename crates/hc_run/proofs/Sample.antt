@@ -8,7 +8,6 @@ use Rattle.hc_net.specs.Seal.{IsSealable, Within}
 use Rattle.hc_net.specs.Valid.{HasSizes, PortHasSizes, port_name}
 use Rattle.hc_net.specs.declared.net.Port.{Port}
 use Rattle.hc_net.specs.declared.net.FlopName.{FlopName}
-use Rattle.hc_net.specs.declared.node.Node.{Node}
 use Rattle.hc_net.specs.declared.node.Node.TheVariants.{Flop, Wire}
 use Rattle.hc_run.specs.Sample.{small}
 

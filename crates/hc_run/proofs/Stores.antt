@@ -7,15 +7,15 @@ use Rattle.std.proofs.lemmas.List.{ext_get_or, get_or-map, length-map, map-appen
 use Rattle.std.proofs.lemmas.List.FromFn.{length-map-range_with_len, get_or-map-range_with_len}
 use Rattle.std.proofs.lemmas.List.Elements.{All-nil, All-append}
 use Rattle.hc_num.specs.Number.{Number}
-use Rattle.hc_core.specs.Program.{Statement, Skip, Assign, Delay, Then}
+use Rattle.hc_core.specs.Residual.{Residual, Skip, Assign, Delay, Then, Unbuilt}
 use Rattle.hc_core.specs.Clock.{Store, val, words, with_word, first_words, initial}
 use Rattle.hc_core.specs.Straight.{acted}
-use Rattle.hc_core.specs.Run.{kinds_of}
-use Rattle.hc_core.specs.declared.stmt.Target.TheVariants.{Reg}
+use Rattle.hc_core.specs.Typed.{kinds_of}
 use Rattle.hc_core.specs.declared.object.Kind.{Kind}
 use Rattle.hc_core.specs.declared.object.Kind.TheVariants as kind
 use Rattle.hc_core.specs.declared.object.Object.{Object}
 use Rattle.hc_net.specs.Bits.{number}
+use Rattle.hc_run.specs.Forms.{IsKind, AreKinds}
 use Rattle.hc_run.specs.Objects.{store_on}
 
 -- a store of n registers: each has its one number
@@ -35,19 +35,20 @@ registers_on objects v = record {
   one = λ k h. let e = get_or-map (λ nets. number (map v nets) ∷ []) objects k [] [] h in e ∙ ap (λ (l : List ℕ). slice_index l 0 ∷ []) (sym e);
 }
 
-pub registers_initial : (objects : List Object) → AreRegisters (length objects) (initial objects)
-registers_initial objects = record {
+pub registers_initial : (objects : List Object) → AreKinds (kinds_of objects) → AreRegisters (length objects) (initial objects)
+registers_initial objects are = record {
   size = length-map objects (λ (o : Object). first_words o.kind);
-  one = λ k h. by_object objects k h;
+  one = λ k h. by_object objects are k h;
 }
   where
-    by_kind : (x : Kind) → first_words x ≡ slice_index (first_words x) 0 ∷ []
-    by_kind (kind.Reg width signed init) = refl
+    by_kind : (x : Kind) → IsKind x → first_words x ≡ slice_index (first_words x) 0 ∷ []
+    by_kind (kind.Reg width signed init) is = refl
+    by_kind _ is = absurd is
 
-    by_object : (l : List Object) (k : ℕ) → k < length l → get_or (initial l) k [] ≡ slice_index (words (initial l) k) 0 ∷ []
-    by_object [] k h = absurd (omega arith)
-    by_object (o ∷ l) zero h = by_kind o.kind
-    by_object (o ∷ l) (suc k) h = by_object l k (omega arith)
+    by_object : (l : List Object) → AreKinds (kinds_of l) → (k : ℕ) → k < length l → get_or (initial l) k [] ≡ slice_index (words (initial l) k) 0 ∷ []
+    by_object [] is k h = absurd (omega arith)
+    by_object (o ∷ l) is zero h = by_kind o.kind (is 0 o.kind refl)
+    by_object (o ∷ l) is (suc k) h = by_object l (λ j x e. is (suc j) x e) k (omega arith)
 
 -- a write keeps the store one of registers
 registers_written : (n : ℕ) (store : Store) (k bits : ℕ) → AreRegisters n store → AreRegisters n (with_word store k 0 bits)
@@ -66,12 +67,13 @@ registers_written n store k bits r = record {
       (eqb_tells j k);
 }
 
-pub registers_acted : (n : ℕ) (kinds : List Kind) (o : Option Statement) (store : Store) → AreRegisters n store → AreRegisters n (acted kinds o store)
+pub registers_acted : (n : ℕ) (kinds : List Kind) (o : Option Residual) (store : Store) → AreRegisters n store → AreRegisters n (acted kinds o store)
 registers_acted n kinds None store r = r
 registers_acted n kinds (Some Skip) store r = r
-registers_acted n kinds (Some (Assign (Reg k) e)) store r = registers_written n store k (val (record { kinds = kinds; store = store }) e).bits r
+registers_acted n kinds (Some (Assign k e)) store r = registers_written n store k (val (record { kinds = kinds; store = store }) e).bits r
 registers_acted n kinds (Some Delay) store r = r
 registers_acted n kinds (Some (Then a b)) store r = r
+registers_acted n kinds (Some Unbuilt) store r = r
 
 -- ---- Lists of nets end to end
 
@@ -130,11 +132,12 @@ map_index f l =
     ∙ sym (get_or-map f l i 0 false inside))
 
 -- what a register starts with
-of_kind : (x : Kind) → (width : ℕ) × (signed : Bool) × (init : Number) × (Some x ≡ Some (kind.Reg width signed init)) × (slice_index (first_words x) 0 ≡ init.bits)
-of_kind (kind.Reg width signed init) = (width, signed, init, refl, refl)
+of_kind : (x : Kind) → IsKind x → (width : ℕ) × (signed : Bool) × (init : Number) × (Some x ≡ Some (kind.Reg width signed init)) × (slice_index (first_words x) 0 ≡ init.bits)
+of_kind (kind.Reg width signed init) is = (width, signed, init, refl, refl)
+of_kind _ is = absurd is
 
-pub initial_word : (l : List Object) (k : ℕ) → k < length l
+pub initial_word : (l : List Object) → AreKinds (kinds_of l) → (k : ℕ) → k < length l
     → (width : ℕ) × (signed : Bool) × (init : Number) × (slice_get (kinds_of l) k ≡ Some (kind.Reg width signed init)) × (slice_index (words (initial l) k) 0 ≡ init.bits)
-initial_word [] k h = absurd (omega arith)
-initial_word (o ∷ l) zero h = of_kind o.kind
-initial_word (o ∷ l) (suc k) h = initial_word l k (omega arith)
+initial_word [] is k h = absurd (omega arith)
+initial_word (o ∷ l) is zero h = of_kind o.kind (is 0 o.kind refl)
+initial_word (o ∷ l) is (suc k) h = initial_word l (λ j x e. is (suc j) x e) k (omega arith)

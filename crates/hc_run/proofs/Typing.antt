@@ -1,14 +1,15 @@
 -- The types of first-form expressions and statements.
-use Rattle.std.proofs.Common.{◌≡◌, ℕ, zero, suc, ◌-◌, ◌^◌, ◌≤◌, ◌<◌, Bool, true, false, cond, List, [], ◌∷◌, Option, Some, None, IfSome, arith, refl, sym, subst}
+use Rattle.std.proofs.Common.{◌≡◌, ℕ, zero, suc, ◌+◌, ◌*◌, length, ◌-◌, ◌^◌, ◌≤◌, ◌<◌, Bool, true, false, cond, List, [], ◌∷◌, Option, Some, None, IfSome, arith, refl, sym, subst}
 use Rattle.std.specs.List.{All}
 use Rattle.std.specs.Str.{bytes_eq}
 use Rattle.std.proofs.lemmas.List.Elements.{All-head, All-tail}
 use Rattle.std.proofs.Math.Nat.{pow-suc, one-le-pow}
-use mathlib.Core.Former.{Count}
-use Rattle.hc_core.specs.Program.{Statement, Binary, Then, Register, Constant}
-use Rattle.hc_core.specs.Read.{expression, statement, whole, followed}
-use Rattle.hc_core.specs.Run.{kinds_of}
-use Rattle.hc_core.specs.Sound.{IsNumber, constant, register, sum, IsTyped}
+use Rattle.hc_core.specs.Program.{Expression, Binary, Register, Constant}
+use Rattle.hc_core.specs.Read.{expression, target as read_target, statement, statements}
+use Rattle.hc_core.specs.Typed.{IsNumber, constant, register, arithmetic, kinds_of}
+use Rattle.hc_core.specs.Sound.{IsTyped, AllTyped}
+use Rattle.hc_core.specs.Built.{IsBuiltStatement, IsBuiltExpression, AllBuilt}
+use Rattle.hc_core.proofs.Read.{read_Binary, read_Seq}
 use Rattle.hc_core.specs.declared.expr.BinOp.TheVariants.{Add}
 use Rattle.hc_core.specs.declared.expr.Expr.{Expr}
 use Rattle.hc_core.specs.declared.expr.Expr.TheVariants as e
@@ -18,9 +19,8 @@ use Rattle.hc_tree.specs.declared.place.Place.{Place}
 use Rattle.hc_core.specs.declared.stmt.Stmt.{Stmt}
 use Rattle.hc_core.specs.declared.stmt.Stmt.TheVariants as s
 use Rattle.hc_core.specs.declared.stmt.Target.TheVariants as target
-use Rattle.hc_core.specs.declared.expr.Expr.TheBlock as eb
-use Rattle.hc_core.specs.declared.stmt.Stmt.TheBlock as sb
-use Rattle.hc_run.specs.FirstForm.{number, find_from, find, width_of}
+use Rattle.hc_core.specs.Parts.{expression_parts, statement_parts, all_parts}
+use Rattle.hc_run.specs.FirstForm.{number, find_from, find, width_of, IsSimple, IsAction}
 use Rattle.hc_run.specs.Reads.{IsRegister, IsFound, IsValue, IsPart}
 
 pub one-lt-pow : (w : ℕ) → 1 ≤ w → 1 < 2 ^ w
@@ -35,49 +35,78 @@ pub typed-Reg : (objects : List Object) (k w : ℕ) → IsFound objects k w → 
 unfolding expression
 typed-Reg objects k w f = (tt, register k w false (number w 0) f.kind)
 
-read-Binary : (a b : Expr) → expression (e.Binary Add a b) ≡ Binary Add (expression a) (expression b)
-unfolding expression eb.hidden-the_row-Expr-0 denote.Hole.Carrier.hidden
-read-Binary a b = refl
-
 read-sum : (k w : ℕ) → expression (e.Binary Add (e.Reg k) (e.Const (number w 1))) ≡ Binary Add (Register k) (Constant (number w 1))
 unfolding expression
-read-sum k w = read-Binary (e.Reg k) (e.Const (number w 1))
+read-sum k w = read_Binary Add (e.Reg k) (e.Const (number w 1))
 
 pub typed-Binary : (objects : List Object) (k w : ℕ) → IsFound objects k w → IsValue objects w (e.Binary Add (e.Reg k) (e.Const (number w 1)))
 unfolding expression
 typed-Binary objects k w f =
-    rw read-sum (tt, sum _ _ w false (typed-Reg objects k w f).1 (typed-Const objects w 1 f.least f.most (one-lt-pow w f.least)).1)
+    rw read-sum (tt, arithmetic Add _ _ w false refl (typed-Reg objects k w f).1 (typed-Const objects w 1 f.least f.most (one-lt-pow w f.least)).1)
 
 pub part-Delay : (objects : List Object) (at : Place) → IsPart objects (s.Delay at)
 unfolding statement
 part-Delay objects at = (tt, tt)
 
 pub part-Assign : (objects : List Object) (at : Place) (k w : ℕ) (v : Expr) → IsFound objects k w → IsValue objects w v → IsPart objects (s.Assign at (target.Reg k) v)
-unfolding statement
-part-Assign objects at k w v f h = (h.0, (w, false, (number w 0, f.kind), h.1))
+unfolding statement read_target
+part-Assign objects at k w v f h = (h.0, record { width = w; signed = false; target = (number w 0, f.kind); value = h.1 })
 
-abbrev row_of : Stmt → (n : Count) × sb.Row_of-Stmt n
-row_of (s.Assign at t v) = (_, sb.end_of-Stmt)
-row_of (s.Delay at) = (_, sb.end_of-Stmt)
-row_of (s.Seq' at m row) = (_, row)
-
-followed-typed : (objects : List Object) (done : Statement) (n : _) (row : sb.Row_of-Stmt n) → IsTyped (kinds_of objects) done → All (IsPart objects) (sb.items-the_row-Stmt n row)
-    → IsTyped (kinds_of objects) (followed done row)
-unfolding statement whole followed
-followed-typed objects done n sb.end_of-Stmt d h = d
-followed-typed objects done n (sb.more_of-Stmt next rest) d h =
-    followed-typed objects (Then done (statement next)) _ rest (d, (All-head (IsPart objects) next _ h).1) (All-tail (IsPart objects) next _ h)
-
-whole-typed : (objects : List Object) (n : _) (row : sb.Row_of-Stmt n) → All (IsPart objects) (sb.items-the_row-Stmt n row) → IsTyped (kinds_of objects) (whole row)
-unfolding statement whole followed
-whole-typed objects n sb.end_of-Stmt h = tt
-whole-typed objects n (sb.more_of-Stmt first rest) h = followed-typed objects (statement first) _ rest (All-head (IsPart objects) first _ h).1 (All-tail (IsPart objects) first _ h)
+all-typed : (objects : List Object) (parts : List Stmt) → All (IsPart objects) parts → AllTyped (kinds_of objects) (statements parts)
+unfolding statements
+all-typed objects [] h = tt
+all-typed objects (next ∷ rest) h = ((All-head (IsPart objects) next rest h).1, all-typed objects rest (All-tail (IsPart objects) next rest h))
 
 pub typed-Seq : (objects : List Object) (at : Place) (parts : List Stmt) → All (IsPart objects) parts → IsTyped (kinds_of objects) (statement (s.Seq at parts))
-unfolding statement
-typed-Seq objects at parts h =
-    let row = row_of (s.Seq at parts) in
-    whole-typed objects row.0 row.1 (subst (All (IsPart objects)) (sym (sb.items_hidden-the_row-Stmt-0 parts)) h)
+typed-Seq objects at parts h = rw read_Seq (all-typed objects parts h)
+
+-- what is simple is built
+simple-built : (x : Expression) → IsSimple x → IsBuiltExpression x
+simple-built (Constant n) h = tt
+simple-built (Register k) h = tt
+simple-built (Binary Add (Register k) (Constant n)) h = (tt, tt, tt)
+simple-built _ h = absurd h
+
+action-built : (p : Stmt) → IsAction p → IsBuiltStatement (statement p)
+unfolding statement read_target
+action-built (s.Assign at (target.Reg k) v) h = (tt, simple-built (expression v) h)
+action-built (s.Delay at) h = tt
+action-built _ h = absurd h
+
+all-built : (objects : List Object) (parts : List Stmt) → All (IsPart objects) parts → AllBuilt (statements parts)
+unfolding statements
+all-built objects [] h = tt
+all-built objects (next ∷ rest) h =
+    (action-built next (All-head (IsPart objects) next rest h).0, all-built objects rest (All-tail (IsPart objects) next rest h))
+
+pub built-Seq : (objects : List Object) (at : Place) (parts : List Stmt) → All (IsPart objects) parts → IsBuiltStatement (statement (s.Seq at parts))
+built-Seq objects at parts h = rw read_Seq (all-built objects parts h)
+
+-- a simple expression has one part, or three
+simple-parts : (x : Expression) → IsSimple x → expression_parts x ≤ 3
+simple-parts (Constant n) h = omega arith
+simple-parts (Register k) h = omega arith
+simple-parts (Binary Add (Register k) (Constant n)) h = omega arith
+simple-parts _ h = absurd h
+
+action-parts : (p : Stmt) → IsAction p → statement_parts (statement p) ≤ 5
+unfolding statement read_target
+action-parts (s.Assign at (target.Reg k) v) h = let n = simple-parts (expression v) h in omega arith
+action-parts (s.Delay at) h = omega arith
+action-parts _ h = absurd h
+
+list-parts : (objects : List Object) (parts : List Stmt) → All (IsPart objects) parts → all_parts (statements parts) ≤ 5 * length parts
+unfolding statements
+list-parts objects [] h = omega arith
+list-parts objects (next ∷ rest) h =
+    let one = action-parts next (All-head (IsPart objects) next rest h).0 in
+    let others = list-parts objects rest (All-tail (IsPart objects) next rest h) in
+    omega arith
+
+pub few-parts : (objects : List Object) (at : Place) (parts : List Stmt) → All (IsPart objects) parts → statement_parts (statement (s.Seq at parts)) ≤ 5 * length parts + 1
+few-parts objects at parts h =
+    let n = list-parts objects parts h in
+    rw read_Seq (omega arith)
 
 register-found : (o : Object) (objects : List Object) (w : ℕ) → IsNumber (number w 0) → o.kind ≡ kind.Reg w false (number w 0) → IsFound (o ∷ objects) 0 (width_of o.kind)
 register-found o objects w n e = rw e (record { least = n.least; most = n.most; kind = refl })

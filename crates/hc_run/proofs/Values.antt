@@ -1,6 +1,6 @@
 -- Constants, registers and sums as nets.
 use Rattle.std.proofs.Common.{◌≡◌, ◌≢◌, ◌<◌, ◌≤◌, ℕ, zero, suc, ◌+◌, ◌*◌, ◌%◌, ◌^◌, List, [], ◌∷◌, ◌++◌, length, map, get_or, Bool, true, false, Result, Ok, Err, IfOk, refl, sym, ap, ◌∙◌, subst, arith, eq-eqb}
-use Rattle.std.specs.Prelude.{◌==◌, if◌then◌else◌, All, Option, Some, None, slice_get, slice_index}
+use Rattle.std.specs.Prelude.{◌==◌, if◌then◌else◌, All, Option, Some, slice_get, slice_index}
 use Rattle.std.specs.List.{range_with_len}
 use Rattle.std.proofs.lemmas.Bool.{ne_eqb}
 use Rattle.std.proofs.lemmas.List.FromFn.{map-range_with_len_more, length-map-range_with_len}
@@ -8,11 +8,14 @@ use Rattle.hc_net.specs.Bits.{bit, number}
 use Rattle.std.proofs.lemmas.List.{get_or-map}
 use Rattle.std.proofs.lemmas.Option.{slice_get_within}
 use Rattle.hc_num.specs.Number.{Number}
-use Rattle.hc_core.specs.Program.{Expression, Constant, Register, Binary}
+use Rattle.hc_core.specs.Residual.{Value, Constant, Register, Sum, NoValue, combined, value}
 use Rattle.hc_core.specs.Read.{expression}
+use Rattle.hc_core.proofs.Read.{read_Signal, read_Input, read_Element, read_Word, read_Unary, read_Binary, read_Slice, read_Choice}
+use Rattle.hc_run.specs.Forms.{value_of}
 use Rattle.hc_core.specs.Clock.{val, words, typed}
-use Rattle.hc_core.specs.Run.{kinds_of}
-use Rattle.hc_core.specs.Sound.{IsNumber, IsKind, Typed, constant, register, sum as sum_type, IsSound}
+use Rattle.hc_core.specs.Typed.{IsNumber, kinds_of}
+use Rattle.hc_run.specs.Forms.{IsKind, Typed, constant, register, sum as sum_type, HasForms}
+use Rattle.hc_core.specs.declared.expr.UnOp.{UnOp}
 use Rattle.hc_core.specs.declared.expr.BinOp.{BinOp}
 use Rattle.hc_core.specs.declared.expr.BinOp.TheVariants.{Add}
 use Rattle.hc_core.specs.declared.expr.Expr.{Expr}
@@ -68,12 +71,7 @@ constant_computes at c n is hz ho = record {
 }
 
 pub typed_bits : (o : Option Kind) (bits : ℕ) → (typed o bits).bits ≡ bits
-typed_bits None bits = refl
-typed_bits (Some (Reg width signed init)) bits = refl
-
-typed_width : (o : Option Kind) (a b : ℕ) → (typed o a).width ≡ (typed o b).width
-typed_width None a b = refl
-typed_width (Some (Reg width signed init)) a b = refl
+typed_bits o bits = refl
 
 -- the number that a register holds on nets
 pub word_on : (objects : List (List ℕ)) (v : ℕ → Bool) (k : ℕ) → k < length objects → slice_index (words (store_on objects v) k) 0 ≡ number (map v (get_or objects k []))
@@ -92,23 +90,25 @@ register_computes kinds at c k width signed init nets there =
     }
 
 -- an expression's number has the width of the expression
-pub val_width : (kinds : List Kind) (objects : List (List ℕ)) (v : ℕ → Bool) (x : Expression) → (val (record { kinds = kinds; store = store_on objects v }) x).width ≡ width_in kinds x
+pub val_width : (kinds : List Kind) (objects : List (List ℕ)) (v : ℕ → Bool) (x : Value) → (val (record { kinds = kinds; store = store_on objects v }) x).width ≡ width_in kinds x
 val_width kinds objects v (Constant n) = refl
-val_width kinds objects v (Register k) = typed_width (slice_get kinds k) _ 0
-val_width kinds objects v (Binary Add a b) = val_width kinds objects v a
+val_width kinds objects v (Register k) = refl
+val_width kinds objects v (Sum a b) = val_width kinds objects v a
+val_width kinds objects v NoValue = refl
 
-pub width_of : (kinds : List Kind) (x : Expression) (width : ℕ) (signed : Bool) → Typed kinds x width signed → width_in kinds x ≡ width
+pub width_of : (kinds : List Kind) (x : Value) (width : ℕ) (signed : Bool) → Typed kinds x width signed → width_in kinds x ≡ width
 width_of kinds (Constant n) width signed (constant m is) = refl
 width_of kinds (Register k) width signed (register j w s init there) = ap (λ o. (typed o 0).width) there
-width_of kinds (Binary op a b) width signed (sum_type x y w s ta tb) = width_of kinds a width signed ta
+width_of kinds (Sum a b) width signed (sum_type x y w s ta tb) = width_of kinds a width signed ta
+width_of kinds NoValue width signed h = elim h [ ]
 
 -- a sum of two computed numbers
-pub sum_computes : (kinds : List Kind) (at : ObjectNets) (a b : Expression) (c0 c1 c2 c3 : Circuit) (m n most : ℕ) (x y z : List ℕ)
+pub sum_computes : (kinds : List Kind) (at : ObjectNets) (a b : Value) (c0 c1 c2 c3 : Circuit) (m n most : ℕ) (x y z : List ℕ)
     → Computes c0 c1 m (HasConstants at) (value_on kinds at.objects a) (width_in kinds a) x
     → Computes c1 c2 n (HasConstants at) (value_on kinds at.objects b) (width_in kinds b) y
     → Computes c2 c3 (5 * length x) (IsZero at.zero) (sum_on x y) (length x) z
     → length x ≤ 128 → m + n + 640 ≤ most
-    → Computes c0 c3 most (HasConstants at) (value_on kinds at.objects (Binary Add a b)) (width_in kinds a) z
+    → Computes c0 c3 most (HasConstants at) (value_on kinds at.objects (Sum a b)) (width_in kinds a) z
 sum_computes kinds at a b c0 c1 c2 c3 m n most x y z fx fy fz narrow room = record {
   grows = AddsGates-more c0 c1 c3 m (n + 5 * length x) most fx.grows (AddsGates-more c1 c2 c3 n (5 * length x) (n + 5 * length x) fy.grows fz.grows (omega arith)) (omega arith);
   width = fz.width ∙ fx.width;
@@ -123,33 +123,40 @@ sum_computes kinds at a b c0 c1 c2 c3 m n most x y z fx fy fz narrow room = reco
 }
 
 -- widths are at most 128
-pub narrow : (core : Core) (x : Expression) (width : ℕ) (signed : Bool) → IsSound core → Typed (kinds_of core.objects) x width signed → width ≤ 128
+pub narrow : (core : Core) (x : Value) (width : ℕ) (signed : Bool) → HasForms core → Typed (kinds_of core.objects) x width signed → width ≤ 128
 narrow core (Constant n) width signed sound (constant m is) = is.most
 narrow core (Register k) width signed sound (register j w s init there) =
     let kind : IsKind (Reg w s init) = sound.kinds j (Reg w s init) there in
     rw (← kind.1) kind.0.most
-narrow core (Binary op a b) width signed sound (sum_type x y w s ta tb) = narrow core a width signed sound ta
+narrow core (Sum a b) width signed sound (sum_type x y w s ta tb) = narrow core a width signed sound ta
+narrow core NoValue width signed sound h = elim h [ ]
 
 -- what is there when an expression has a type
-pub typed_constant : (kinds : List Kind) (n : Number) (width : ℕ) (signed : Bool) → Typed kinds (expression (e.Const n)) width signed → IsNumber n
-unfolding expression
+pub typed_constant : (kinds : List Kind) (n : Number) (width : ℕ) (signed : Bool) → Typed kinds (value_of (e.Const n)) width signed → IsNumber n
+unfolding expression value
 typed_constant kinds n width signed (constant m is) = is
 
-pub typed_register : (kinds : List Kind) (k width : ℕ) (signed : Bool) → Typed kinds (expression (e.Reg k)) width signed → (init : Number) × (slice_get kinds k ≡ Some (Reg width signed init))
-unfolding expression
+pub typed_register : (kinds : List Kind) (k width : ℕ) (signed : Bool) → Typed kinds (value_of (e.Reg k)) width signed → (init : Number) × (slice_get kinds k ≡ Some (Reg width signed init))
+unfolding expression value
 typed_register kinds k width signed (register j w s init there) = (init, there)
 
-pub read_Binary : (op : BinOp) (a b : Expr) → expression (e.Binary op a b) ≡ Binary op (expression a) (expression b)
-unfolding expression Rattle.hc_core.specs.declared.expr.Expr.TheBlock.hidden-the_row-Expr-0 denote.Hole.Carrier.hidden
-read_Binary op a b = refl
-
-parts_of_sum : (kinds : List Kind) (op : BinOp) (a b : Expression) (width : ℕ) (signed : Bool) → Typed kinds (Binary op a b) width signed
+-- the parts of a sum have its type
+parts_of_sum : (kinds : List Kind) (a b : Value) (width : ℕ) (signed : Bool) → Typed kinds (Sum a b) width signed
     → Typed kinds a width signed × Typed kinds b width signed
-parts_of_sum kinds op a b width signed (sum_type x y w s ta tb) = (ta, tb)
+parts_of_sum kinds a b width signed (sum_type x y w s ta tb) = (ta, tb)
 
-pub typed_sum : (kinds : List Kind) (op : BinOp) (a b : Expr) (width : ℕ) (signed : Bool) → Typed kinds (expression (e.Binary op a b)) width signed
-    → Typed kinds (expression a) width signed × Typed kinds (expression b) width signed
-typed_sum kinds op a b width signed h = parts_of_sum kinds op (expression a) (expression b) width signed (rw read_Binary at h)
+-- what is no value has no type
+no_type : (kinds : List Kind) (width : ℕ) (signed : Bool) → Typed kinds NoValue width signed → ⊥
+no_type kinds width signed h = elim h [ ]
+
+-- two values with an operator that have a type are a sum
+only_sum : (kinds : List Kind) (op : BinOp) (a b : Value) (width : ℕ) (signed : Bool) → Typed kinds (combined op a b) width signed → combined op a b ≡ Sum a b
+only_sum kinds Add a b width signed h = refl
+only_sum kinds _ a b width signed h = absurd (no_type kinds width signed h)
+
+value_Binary : (op : BinOp) (a b : Expr) → value_of (e.Binary op a b) ≡ combined op (value_of a) (value_of b)
+unfolding value
+value_Binary op a b = ap value (read_Binary op a b)
 
 -- The steps of `value`, for each form.
 ready_nets : (kinds : List Kind) (at : ObjectNets) (m n : ℕ) → m ≤ n → AreNets kinds at m → AreNets kinds at n
@@ -161,58 +168,99 @@ ready_nets kinds at m n le nets = record {
   one_below = let o = nets.one_below in omega arith;
 }
 
-pub known_register : (core : Core) (at : ObjectNets) (nodes : List Node) (x : Expr) (k : ℕ) → x ≡ e.Reg k → CanCompute core at nodes (expression x) → k < length at.objects
+pub known_register : (core : Core) (at : ObjectNets) (nodes : List Node) (x : Expr) (k : ℕ) → x ≡ e.Reg k → CanCompute core at nodes (value_of x) → k < length at.objects
 known_register core at nodes x k is can =
-    let typed' = subst (λ (y : Expr). CanCompute core at nodes (expression y)) is can in
+    let typed' = subst (λ (y : Expr). CanCompute core at nodes (value_of y)) is can in
     let there = typed_register (kinds_of core.objects) k typed'.typed.0 typed'.typed.1 typed'.typed.2 in
     let inside = slice_get_within (kinds_of core.objects) k _ there.1 in
     omega (arith, inside, can.nets.all)
 
-pub gives_constant : (core : Core) (at : ObjectNets) (c : Circuit) (x : Expr) (n : Number) → x ≡ e.Const n → CanCompute core at c.nodes (expression x)
-    → ComputesValue core at c c (expression x) (constant_nets at.zero at.one n)
-unfolding expression
+pub gives_constant : (core : Core) (at : ObjectNets) (c : Circuit) (x : Expr) (n : Number) → x ≡ e.Const n → CanCompute core at c.nodes (value_of x)
+    → ComputesValue core at c c (value_of x) (constant_nets at.zero at.one n)
+unfolding expression value
 gives_constant core at c x n is can =
-    let can' : CanCompute core at c.nodes (expression (e.Const n)) = subst (λ (y : Expr). CanCompute core at c.nodes (expression y)) is can in
-    subst (λ (y : Expr). ComputesValue core at c c (expression y) (constant_nets at.zero at.one n)) (sym is)
+    let can' : CanCompute core at c.nodes (value_of (e.Const n)) = subst (λ (y : Expr). CanCompute core at c.nodes (value_of y)) is can in
+    subst (λ (y : Expr). ComputesValue core at c c (value_of y) (constant_nets at.zero at.one n)) (sym is)
     (constant_computes at c n (typed_constant (kinds_of core.objects) n can'.typed.0 can'.typed.1 can'.typed.2) can.nets.zero_below can.nets.one_below)
 
-pub gives_register : (core : Core) (at : ObjectNets) (c : Circuit) (x : Expr) (k : ℕ) → x ≡ e.Reg k → CanCompute core at c.nodes (expression x)
-    → ComputesValue core at c c (expression x) (get_or at.objects k [])
-unfolding expression
+pub gives_register : (core : Core) (at : ObjectNets) (c : Circuit) (x : Expr) (k : ℕ) → x ≡ e.Reg k → CanCompute core at c.nodes (value_of x)
+    → ComputesValue core at c c (value_of x) (get_or at.objects k [])
+unfolding expression value
 gives_register core at c x k is can =
-    let can' : CanCompute core at c.nodes (expression (e.Reg k)) = subst (λ (y : Expr). CanCompute core at c.nodes (expression y)) is can in
+    let can' : CanCompute core at c.nodes (value_of (e.Reg k)) = subst (λ (y : Expr). CanCompute core at c.nodes (value_of y)) is can in
     let there = typed_register (kinds_of core.objects) k can'.typed.0 can'.typed.1 can'.typed.2 in
-    subst (λ (y : Expr). ComputesValue core at c c (expression y) (get_or at.objects k [])) (sym is)
+    subst (λ (y : Expr). ComputesValue core at c c (value_of y) (get_or at.objects k [])) (sym is)
     (register_computes (kinds_of core.objects) at c k can'.typed.0 can'.typed.1 there.0 can.nets there.1)
 
--- the two operands of a sum
-opened : (core : Core) (at : ObjectNets) (nodes : List Node) (x : Expr) (op : BinOp) (a b : Expr) → x ≡ e.Binary op a b → CanCompute core at nodes (expression x)
-    → CanCompute core at nodes (Binary op (expression a) (expression b))
-opened core at nodes x op a b is can =
-    subst (λ y. CanCompute core at nodes y) (ap expression is ∙ read_Binary op a b) can
+-- an expression of two operands that can be computed is a sum
+is_sum : (core : Core) (at : ObjectNets) (nodes : List Node) (x : Expr) (op : BinOp) (a b : Expr) → x ≡ e.Binary op a b → CanCompute core at nodes (value_of x)
+    → value_of x ≡ Sum (value_of a) (value_of b)
+is_sum core at nodes x op a b is can =
+    let read : value_of x ≡ combined op (value_of a) (value_of b) = ap value_of is ∙ value_Binary op a b in
+    read ∙ only_sum (kinds_of core.objects) op (value_of a) (value_of b) can.typed.0 can.typed.1 (subst (λ y. Typed (kinds_of core.objects) y can.typed.0 can.typed.1) read can.typed.2)
 
-pub first_operand : (core : Core) (at : ObjectNets) (nodes : List Node) (x : Expr) (op : BinOp) (a b : Expr) → x ≡ e.Binary op a b → CanCompute core at nodes (expression x)
-    → CanCompute core at nodes (expression a)
+-- the two operands of a sum
+opened : (core : Core) (at : ObjectNets) (nodes : List Node) (x : Expr) (op : BinOp) (a b : Expr) → x ≡ e.Binary op a b → CanCompute core at nodes (value_of x)
+    → CanCompute core at nodes (Sum (value_of a) (value_of b))
+opened core at nodes x op a b is can =
+    subst (λ y. CanCompute core at nodes y) (is_sum core at nodes x op a b is can) can
+
+pub first_operand : (core : Core) (at : ObjectNets) (nodes : List Node) (x : Expr) (op : BinOp) (a b : Expr) → x ≡ e.Binary op a b → CanCompute core at nodes (value_of x)
+    → CanCompute core at nodes (value_of a)
 first_operand core at nodes x op a b is can =
     let can' = opened core at nodes x op a b is can in
     record {
       sound = can'.sound;
-      typed = (can'.typed.0, can'.typed.1, (parts_of_sum _ op (expression a) (expression b) can'.typed.0 can'.typed.1 can'.typed.2).0);
+      typed = (can'.typed.0, can'.typed.1, (parts_of_sum _ (value_of a) (value_of b) can'.typed.0 can'.typed.1 can'.typed.2).0);
       nets = can'.nets;
       room = let r = can'.room in omega arith;
     }
 
 pub second_operand : (core : Core) (at : ObjectNets) (c0 c1 : Circuit) (x : Expr) (op : BinOp) (a b : Expr) (z : List ℕ) → x ≡ e.Binary op a b
-    → CanCompute core at c0.nodes (expression x) → ComputesValue core at c0 c1 (expression a) z → CanCompute core at c1.nodes (expression b)
+    → CanCompute core at c0.nodes (value_of x) → ComputesValue core at c0 c1 (value_of a) z → CanCompute core at c1.nodes (value_of b)
 second_operand core at c0 c1 x op a b z is can fz =
     let can' = opened core at c0.nodes x op a b is can in
-    let longer = AddsGates-length c0 c1 (640 * sums (expression a)) fz.grows in
+    let longer = AddsGates-length c0 c1 (640 * sums (value_of a)) fz.grows in
     record {
       sound = can'.sound;
-      typed = (can'.typed.0, can'.typed.1, (parts_of_sum _ op (expression a) (expression b) can'.typed.0 can'.typed.1 can'.typed.2).1);
+      typed = (can'.typed.0, can'.typed.1, (parts_of_sum _ (value_of a) (value_of b) can'.typed.0 can'.typed.1 can'.typed.2).1);
       nets = ready_nets _ at (length c0.nodes) (length c1.nodes) longer.0 can'.nets;
       room = let r = can'.room in omega arith;
     }
+
+-- forms that are no value of the clock law yet
+pub value_Element : (k : ℕ) (i : Expr) → value_of (e.Element k i) ≡ NoValue
+unfolding value
+value_Element k i = ap value (read_Element k i)
+
+pub value_Word : (k : ℕ) (i : Expr) → value_of (e.Word k i) ≡ NoValue
+unfolding value
+value_Word k i = ap value (read_Word k i)
+
+pub value_Signal : (k : ℕ) → value_of (e.Signal k) ≡ NoValue
+unfolding value
+value_Signal k = ap value (read_Signal k)
+
+pub value_Input : (k : ℕ) → value_of (e.Input k) ≡ NoValue
+unfolding value
+value_Input k = ap value (read_Input k)
+
+pub value_Unary : (op : UnOp) (a : Expr) → value_of (e.Unary op a) ≡ NoValue
+unfolding value
+value_Unary op a = ap value (read_Unary op a)
+
+pub value_Slice : (a : Expr) (high low : ℕ) → value_of (e.Slice a high low) ≡ NoValue
+unfolding value
+value_Slice a high low = ap value (read_Slice a high low)
+
+pub value_Choice : (c a b : Expr) → value_of (e.Choice c a b) ≡ NoValue
+unfolding value
+value_Choice c a b = ap value (read_Choice c a b)
+
+-- no circuit is asked for what is no value
+pub unbuilt : (core : Core) (at : ObjectNets) (nodes : List Node) (x : Expr) → value_of x ≡ NoValue → CanCompute core at nodes (value_of x) → ⊥
+unbuilt core at nodes x is can =
+    no_type (kinds_of core.objects) can.typed.0 can.typed.1 (subst (λ y. Typed (kinds_of core.objects) y can.typed.0 can.typed.1) is can.typed.2)
 
 -- before the adder: equal widths of at most 128 bits, room, and nets that are there
 pub record CanAdd (at : ObjectNets) (nodes : List Node) (x y : List ℕ) : Type 0 where
@@ -224,17 +272,17 @@ pub record CanAdd (at : ObjectNets) (nodes : List Node) (x y : List ℕ) : Type 
   pub second : All (λ k. k < length nodes) y
 
 pub can_add : (core : Core) (at : ObjectNets) (c0 c1 c2 : Circuit) (x : Expr) (op : BinOp) (a b : Expr) (z w : List ℕ) → x ≡ e.Binary op a b
-    → CanCompute core at c0.nodes (expression x) → ComputesValue core at c0 c1 (expression a) z → ComputesValue core at c1 c2 (expression b) w
+    → CanCompute core at c0.nodes (value_of x) → ComputesValue core at c0 c1 (value_of a) z → ComputesValue core at c1 c2 (value_of b) w
     → CanAdd at c2.nodes z w
 can_add core at c0 c1 c2 x op a b z w is can fz fw =
     let can' = opened core at c0.nodes x op a b is can in
     let kinds = kinds_of core.objects in
-    let types = parts_of_sum kinds op (expression a) (expression b) can'.typed.0 can'.typed.1 can'.typed.2 in
-    let la = fz.width ∙ width_of kinds (expression a) can'.typed.0 can'.typed.1 types.0 in
-    let lb = fw.width ∙ width_of kinds (expression b) can'.typed.0 can'.typed.1 types.1 in
-    let small = narrow core (expression a) can'.typed.0 can'.typed.1 can'.sound types.0 in
-    let l1 = AddsGates-length c0 c1 (640 * sums (expression a)) fz.grows in
-    let l2 = AddsGates-length c1 c2 (640 * sums (expression b)) fw.grows in
+    let types = parts_of_sum kinds (value_of a) (value_of b) can'.typed.0 can'.typed.1 can'.typed.2 in
+    let la = fz.width ∙ width_of kinds (value_of a) can'.typed.0 can'.typed.1 types.0 in
+    let lb = fw.width ∙ width_of kinds (value_of b) can'.typed.0 can'.typed.1 types.1 in
+    let small = narrow core (value_of a) can'.typed.0 can'.typed.1 can'.sound types.0 in
+    let l1 = AddsGates-length c0 c1 (640 * sums (value_of a)) fz.grows in
+    let l2 = AddsGates-length c1 c2 (640 * sums (value_of b)) fw.grows in
     record {
       widths = la ∙ sym lb;
       narrow = omega arith;
@@ -245,23 +293,24 @@ can_add core at c0 c1 c2 x op a b z w is can fz fw =
     }
 
 pub gives_sum : (core : Core) (at : ObjectNets) (c0 c1 c2 c3 : Circuit) (x : Expr) (op : BinOp) (a b : Expr) (z w s : List ℕ) → x ≡ e.Binary op a b
-    → CanCompute core at c0.nodes (expression x) → ComputesValue core at c0 c1 (expression a) z → ComputesValue core at c1 c2 (expression b) w
+    → CanCompute core at c0.nodes (value_of x) → ComputesValue core at c0 c1 (value_of a) z → ComputesValue core at c1 c2 (value_of b) w
     → Computes c2 c3 (5 * length z) (IsZero at.zero) (sum_on z w) (length z) s
-    → ComputesValue core at c0 c3 (expression x) s
-gives_sum core at c0 c1 c2 c3 x Add a b z w s is can fz fw fs =
-    let ready = can_add core at c0 c1 c2 x Add a b z w is can fz fw in
-    let all : ComputesValue core at c0 c3 (Binary Add (expression a) (expression b)) s =
-    sum_computes (kinds_of core.objects) at (expression a) (expression b) c0 c1 c2 c3 (640 * sums (expression a)) (640 * sums (expression b)) (640 * (1 + sums (expression a) + sums (expression b))) z w s fz fw fs ready.narrow (omega arith) in
-    subst (λ y. ComputesValue core at c0 c3 y s) (sym (ap expression is ∙ read_Binary Add a b)) all
+    → ComputesValue core at c0 c3 (value_of x) s
+gives_sum core at c0 c1 c2 c3 x op a b z w s is can fz fw fs =
+    let ready = can_add core at c0 c1 c2 x op a b z w is can fz fw in
+    let all : ComputesValue core at c0 c3 (Sum (value_of a) (value_of b)) s =
+    sum_computes (kinds_of core.objects) at (value_of a) (value_of b) c0 c1 c2 c3 (640 * sums (value_of a)) (640 * sums (value_of b)) (640 * (1 + sums (value_of a) + sums (value_of b))) z w s fz fw fs ready.narrow (omega arith) in
+    subst (λ y. ComputesValue core at c0 c3 y s) (sym (is_sum core at c0.nodes x op a b is can)) all
 
 pub if_ok : {T E : Type 0} (r : Result T E) (P Q : T → Type 0) → ((x : T) → P x → Q x) → IfOk r P → IfOk r Q
 if_ok (Ok x) P Q f h = f x h
 if_ok (Err x) P Q f h = tt
 
 -- an operand has fewer sums
-pub fewer_sums : (x : Expr) (op : BinOp) (a b : Expr) → x ≡ e.Binary op a b → (sums (expression a) < sums (expression x)) × (sums (expression b) < sums (expression x))
-fewer_sums x op a b is =
-    let n : sums (expression x) ≡ 1 + sums (expression a) + sums (expression b) = ap sums (ap expression is ∙ read_Binary op a b) in
+pub fewer_sums : (core : Core) (at : ObjectNets) (nodes : List Node) (x : Expr) (op : BinOp) (a b : Expr) → x ≡ e.Binary op a b → CanCompute core at nodes (value_of x)
+    → (sums (value_of a) < sums (value_of x)) × (sums (value_of b) < sums (value_of x))
+fewer_sums core at nodes x op a b is can =
+    let n : sums (value_of x) ≡ 1 + sums (value_of a) + sums (value_of b) = ap sums (is_sum core at nodes x op a b is can) in
     (omega (arith, n), omega (arith, n))
 
 pub item_is : (xs : List (List ℕ)) (i : ℕ) (x : List ℕ) → x ≡ get_or xs i x → i < length xs → x ≡ get_or xs i []

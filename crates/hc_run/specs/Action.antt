@@ -1,10 +1,10 @@
 -- What the circuit of one action does to the next values of the registers.
 use Rattle.std.specs.Prelude.{◌≡◌, ◌<◌, ℕ, ◌+◌, ◌^◌, List, [], length, map, Bool, true, false, Some, slice_index, slice_index_or, All}
-use Rattle.hc_core.specs.Program.{Statement}
+use Rattle.hc_core.specs.Residual.{Residual}
 use Rattle.hc_core.specs.Clock.{words}
 use Rattle.hc_core.specs.Straight.{acted}
-use Rattle.hc_core.specs.Run.{kinds_of}
-use Rattle.hc_core.specs.Sound.{IsSound, IsTyped}
+use Rattle.hc_core.specs.Typed.{kinds_of}
+use Rattle.hc_run.specs.Forms.{HasForms, IsTyped}
 use Rattle.hc_core.specs.declared.object.Core.{Core}
 use Rattle.hc_net.specs.Bits.{number}
 use Rattle.hc_net.specs.Run.{Trace}
@@ -24,8 +24,8 @@ pub record AreNext (objects nets : List (List ℕ)) (n : ℕ) : Type 0 where
   pub below : (k : ℕ) → All (λ net. net < n) (slice_index_or nets k [])
 
 -- What it takes to build an action.
-pub record CanAct (core : Core) (at : ObjectNets) (now : Circuit) (token : ℕ) (before : List (List ℕ)) (action : Statement) : Type 0 where
-  pub sound : IsSound core
+pub record CanAct (core : Core) (at : ObjectNets) (now : Circuit) (token : ℕ) (before : List (List ℕ)) (action : Residual) : Type 0 where
+  pub sound : HasForms core
   pub typed : IsTyped (kinds_of core.objects) action
   pub brief : IsBrief action
   pub nets : AreNets (kinds_of core.objects) at (length now.nodes)
@@ -35,7 +35,7 @@ pub record CanAct (core : Core) (at : ObjectNets) (now : Circuit) (token : ℕ) 
 
 -- Where the token holds and the next values were the registers' own, they are those after the action; where it doesn't
 -- hold, they stay.
-pub record Acts (core : Core) (at : ObjectNets) (old new : Circuit) (token : ℕ) (before after : List (List ℕ)) (action : Statement) : Type 0 where
+pub record Acts (core : Core) (at : ObjectNets) (old new : Circuit) (token : ℕ) (before after : List (List ℕ)) (action : Residual) : Type 0 where
   pub grows : AddsGates old new 1025
   pub next : AreNext at.objects after (length new.nodes)
   pub kept : (trace : Trace) (h : History) → Explains new.nodes trace h → (t : ℕ) → h t token ≡ false

@@ -6,6 +6,13 @@ use Rattle.std.specs.FinMap.{get, insert}
 use Rattle.hc_outside.specs.Count.{HasRisen, Moves}
 use Rattle.hc_outside.specs.Store.{Files, Disk, StoreState, IsFile, IsMissing, IsLonger, SameFiles, MovesReads}
 use Rattle.hc_outside.specs.Sink.{SinkState, Wrote, WroteFront}
+use Rattle.hc_lex.specs.Lexes.{Stops, HasTokens}
+use Rattle.hc_lex.specs.Place.{start}
+use Rattle.hc_lex.specs.declared.token.Placed.{Placed}
+use Rattle.hc_tree.specs.declared.place.Place.{Place}
+use Rattle.hc_parse.specs.Checked.{Passes, FirstBreach}
+use Rattle.hc_tree.specs.declared.refusal.FrontErr.{FrontErr}
+use Rattle.hc_tree.specs.declared.refusal.FrontErr.TheVariants as front
 use Rattle.hc_tree.specs.declared.refusal.Rule.TheVariants.{NotBuilt}
 use Rattle.hc_tree.specs.declared.refusal.Detail.TheVariants.{Nothing}
 use Rattle.hc_tree.specs.declared.refusal.Refusal.{Refusal}
@@ -16,6 +23,7 @@ use Rattle.hc_run.specs.declared.status.Role.{Role}
 use Rattle.hc_run.specs.declared.status.Status.{Status}
 use Rattle.hc_run.specs.declared.status.Status.TheVariants.{Done, Refused, Usage, ReadFault, WriteFault, NoMemory, Longer}
 use Rattle.hc_run.specs.FirstForm.{first_form}
+use Rattle.hc_run.specs.Halts.{Halts}
 use Rattle.hc_run.specs.Edif.{edif}
 use Rattle.hc_run.specs.Headline.{Implements}
 use Rattle.hc_run.specs.Words.{IsBuild, HasNoJob}
@@ -26,18 +34,65 @@ use Rattle.hc_run.specs.Lines.{built_line, usage_line, read_fault_line, longer_l
 abbrev pub source_limit : ℕ
 source_limit = 4194304
 
--- The bytes are a source of this core.
-abbrev pub Accepted : List ℕ → Core → Type 0
-Accepted bytes core = first_form bytes ≡ Some core
+-- Tokens of which none is left out or too deep are the first-form list of this core.
+pub record IsSource (tokens : List Placed) (core : Core) : Type 0 where
+  pub passes : Passes tokens
+  pub form : first_form tokens ≡ Some core
 
--- the refusal of what isn't built: it names the start of the source
-abbrev pub not_built : Refusal
-not_built = record { rule = NotBuilt; place = record { line = 1; column = 1 }; detail = Nothing }
+-- The bytes are a source of this core: they have tokens within the limits, and these are the core's.
+pub record Accepted (bytes : List ℕ) (core : Core) : Type 0 where
+  pub lexed : HasTokens 0 start bytes
+  pub source : IsSource lexed.tokens core
 
--- The bytes break a rule, and this refusal comes first.
-pub record First (bytes : List ℕ) (refusal : Refusal) : Type 0 where
-  pub no_core : first_form bytes ≡ None
-  pub is : refusal ≡ not_built
+-- The bytes break S1, L1 or L2, and this is the first breach by place.
+pub record BreaksTokens (bytes : List ℕ) (refusal : Refusal) : Type 0 where
+  pub stops : Stops 0 start bytes refusal.rule refusal.place
+  pub detail : refusal.detail ≡ Nothing
+
+-- the refusal of what isn't built at a place
+abbrev pub not_built : Place → Refusal
+not_built place = record { rule = NotBuilt; place = place; detail = Nothing }
+
+-- Tokens are no first-form list: the refusal names the place of the first token with which they can't be one any more.
+pub record IsNotBuilt (tokens : List Placed) (end : Place) (refusal : Refusal) : Type 0 where
+  pub place : Place
+  pub halts : Halts tokens end place
+  pub is : refusal ≡ not_built place
+
+-- None of the tokens is left out or too deep, and they are no first-form list.
+pub record BreaksForm (tokens : List Placed) (end : Place) (refusal : Refusal) : Type 0 where
+  pub passes : Passes tokens
+  pub breaks : IsNotBuilt tokens end refusal
+
+-- Tokens break a rule, and this refusal comes first: what is left out or too deep, then what isn't built.
+pub data FirstOfTokens (tokens : List Placed) (end : Place) (refusal : Refusal) : Type 0 where
+  of_check : FirstBreach tokens refusal → FirstOfTokens tokens end refusal
+  of_form : BreaksForm tokens end refusal → FirstOfTokens tokens end refusal
+
+-- The bytes have tokens within the limits, and this refusal is the first of these.
+pub record BreaksSource (bytes : List ℕ) (refusal : Refusal) : Type 0 where
+  pub lexed : HasTokens 0 start bytes
+  pub breaks : FirstOfTokens lexed.tokens lexed.end refusal
+
+-- The bytes break a rule, and this refusal comes first: what breaks a rule or limit of tokens, then what the tokens break.
+pub data First (bytes : List ℕ) (refusal : Refusal) : Type 0 where
+  of_bytes : BreaksTokens bytes refusal → First bytes refusal
+  of_tokens : BreaksSource bytes refusal → First bytes refusal
+
+-- a refusal of which this holds, or want of memory
+abbrev pub IfRefusal : FrontErr → (Refusal → Type 0) → Type 0
+IfRefusal (front.Refused refusal) holds = holds refusal
+IfRefusal front.NoMemory holds = Unit {0}
+
+-- the bytes have a core
+pub record HasCore (bytes : List ℕ) : Type 0 where
+  pub core : Core
+  pub accepted : Accepted bytes core
+
+-- the bytes have a first refusal
+pub record HasRefusal (bytes : List ℕ) : Type 0 where
+  pub refusal : Refusal
+  pub first : First bytes refusal
 
 -- The words name a job and its netlist file, the source is there within its limit, and the netlist does what it says.
 pub record Compiles (words : List (List ℕ)) (old : StoreState) (name : List ℕ) (raw : RawNet) : Type 0 where

@@ -2,7 +2,8 @@
 use Rattle.std.specs.Prelude.{◌≡◌, ◌<◌, ◌≤◌, ℕ, List, [], map, Bool, true, false, Some, slice_get, slice_index}
 use Rattle.hc_num.specs.Number.{Number}
 use Rattle.hc_core.specs.Clock.{Store, words}
-use Rattle.hc_core.specs.Run.{Run, kinds_of}
+use Rattle.hc_core.specs.Run.{Run}
+use Rattle.hc_core.specs.Typed.{kinds_of}
 use Rattle.hc_core.specs.declared.object.Kind.TheVariants.{Reg}
 use Rattle.hc_core.specs.declared.object.Object.{Object}
 use Rattle.hc_core.specs.declared.object.Core.{Core}

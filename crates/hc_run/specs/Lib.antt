@@ -5,7 +5,9 @@ pub mod Cursor
 pub mod Edif
 pub mod Exit
 pub mod FirstForm
+pub mod Forms
 pub mod Grown
+pub mod Halts
 pub mod Headline
 pub mod Lines
 pub mod Machine
@@ -17,5 +19,4 @@ pub mod Refused
 pub mod Sample
 pub mod Sent
 pub mod Steps
-pub mod Token
 pub mod Words

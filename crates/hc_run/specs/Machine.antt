@@ -13,9 +13,11 @@ use Rattle.hc_net.specs.declared.node.Node.TheVariants.{Input, Flop, Wire, Gate}
 
 abbrev pub width_of : Kind → ℕ
 width_of (Reg width signed init) = width
+width_of _ = 0
 
 abbrev pub first_bits : Kind → ℕ
 first_bits (Reg width signed init) = init.bits
+first_bits _ = 0
 
 -- the flip-flops of object k with this width and first number, not fed yet, the lowest bit first
 abbrev pub bit_flops : ℕ → ℕ → ℕ → List Node

@@ -1,11 +1,11 @@
 -- A program without control as a chain of tokens, action by action.
 use Rattle.std.specs.Prelude.{◌≡◌, ◌<◌, ◌≤◌, ◌==◌, ℕ, ◌+◌, ◌*◌, ◌^◌, List, [], length, Bool, Some, take, slice_get, slice_index, slice_index_or, All}
-use Rattle.hc_core.specs.Program.{Statement}
-use Rattle.hc_core.specs.Read.{statement}
+use Rattle.hc_core.specs.Residual.{Residual}
+use Rattle.hc_run.specs.Forms.{residual_of}
 use Rattle.hc_core.specs.Clock.{words}
 use Rattle.hc_core.specs.Straight.{acted}
-use Rattle.hc_core.specs.Run.{kinds_of}
-use Rattle.hc_core.specs.Sound.{IsSound, IsTyped}
+use Rattle.hc_core.specs.Typed.{kinds_of}
+use Rattle.hc_run.specs.Forms.{HasForms, IsTyped}
 use Rattle.hc_num.specs.Number.{Number}
 use Rattle.hc_core.specs.declared.object.Core.{Core}
 use Rattle.hc_core.specs.declared.object.Kind.TheVariants.{Reg}
@@ -20,7 +20,7 @@ use Rattle.hc_run.specs.declared.circuits.value.ObjectNets.{ObjectNets}
 
 -- The first n actions are built: in clock n the token holds and in no other clock, and in each clock the next values
 -- are those after the action of the clock, if it is among them.
-pub record Progress (core : Core) (at : ObjectNets) (actions : List Statement) (first now : Circuit) (n token : ℕ) (next : List (List ℕ)) : Type 0 where
+pub record Progress (core : Core) (at : ObjectNets) (actions : List Residual) (first now : Circuit) (n token : ℕ) (next : List (List ℕ)) : Type 0 where
   pub adds : Adds first now (1026 * n + 3) (tokens (n + 1))
   pub nets : AreNets (kinds_of core.objects) at (length now.nodes)
   pub constants : (trace : Trace) (h : History) → Explains now.nodes trace h → (t : ℕ) → HasConstants at (h t)
@@ -32,9 +32,9 @@ pub record Progress (core : Core) (at : ObjectNets) (actions : List Statement) (
 
 -- What it takes to build a list of actions: the registers' nets, and room.
 pub record CanChain (core : Core) (first : Circuit) (nets : List (List ℕ)) (parts : List Stmt) : Type 0 where
-  pub sound : IsSound core
+  pub sound : HasForms core
   pub actions : All IsAction parts
-  pub typed : All (λ p. IsTyped (kinds_of core.objects) (statement p)) parts
+  pub typed : All (λ p. IsTyped (kinds_of core.objects) (residual_of p)) parts
   pub few : length parts ≤ 200
   pub all : length nets ≡ length (kinds_of core.objects)
   pub width : (k width : ℕ) (signed : Bool) (init : Number) → slice_get (kinds_of core.objects) k ≡ Some (Reg width signed init) → length (slice_index_or nets k []) ≡ width

@@ -1,27 +1,31 @@
 -- What a function that reads a form ensures: the form's outcome, unless memory fails.
-use Rattle.std.specs.Prelude.{◌≡◌, ◌≤◌, [], ◌∷◌, ◌++◌, length, slice_get, Option, Some, None, Result, Ok, Err, List, ℕ, false}
+use Rattle.std.specs.Prelude.{◌≡◌, ◌<◌, ◌≤◌, ◌^◌, [], ◌∷◌, ◌++◌, length, slice_get, Option, Some, None, Result, Ok, Err, List, ℕ, false}
 use Rattle.std.specs.List.{All}
 use Rattle.hc_core.specs.Read.{expression, statement}
-use Rattle.hc_core.specs.Run.{kinds_of}
-use Rattle.hc_core.specs.Sound.{IsNumber, Typed, IsTyped}
+use Rattle.hc_core.specs.Typed.{IsNumber, Typed, kinds_of}
+use Rattle.hc_core.specs.Sound.{IsTyped}
 use Rattle.hc_core.specs.declared.expr.Expr.{Expr}
 use Rattle.hc_core.specs.declared.object.Kind.TheVariants as kind
 use Rattle.hc_core.specs.declared.object.Object.{Object}
 use Rattle.hc_core.specs.declared.stmt.Stmt.{Stmt}
 use Rattle.hc_core.specs.declared.stmt.Stmt.TheVariants as s
+use Rattle.hc_lex.specs.declared.token.Placed.{Placed}
 use Rattle.hc_tree.specs.declared.place.Place.{Place}
-use Rattle.hc_run.specs.Token.{Token}
 use Rattle.hc_run.specs.FirstForm.{number, IsSimple, IsAction}
-use Rattle.hc_run.specs.declared.reader.first_form.Stop.{Stop}
-use Rattle.hc_run.specs.declared.reader.first_form.Stop.TheVariants.{NoMemory, NotFirstForm}
+use Rattle.hc_run.specs.declared.reader.statements.Begun.{Begun}
+use Rattle.hc_run.specs.declared.reader.statements.Begun.TheVariants as begun
+use Rattle.hc_run.specs.declared.reader.statements.Operand.{Operand}
+use Rattle.hc_run.specs.declared.reader.statements.Operand.TheVariants as operand
+use Rattle.hc_run.specs.declared.reader.step.Stop.{Stop}
+use Rattle.hc_run.specs.declared.reader.step.Stop.TheVariants.{NoMemory, NotFirstForm}
 
--- the value that the code gives is read by a function
-abbrev pub ReadsBy : {A B : Type 0} → (B → A) → Option (A × List Token) → Result B Stop → List Token → Type 0
-ReadsBy value outcome (Ok b) new = outcome ≡ Some (value b, new)
-ReadsBy value outcome (Err NotFirstForm) new = outcome ≡ None
+-- the value that the code gives is read by a function; the cursor stands where the form's reading ends
+abbrev pub ReadsBy : {A B : Type 0} → (B → A) → Option A × List Placed → Result B Stop → List Placed → Type 0
+ReadsBy value outcome (Ok b) new = outcome ≡ (Some (value b), new)
+ReadsBy value outcome (Err NotFirstForm) new = outcome ≡ (None, new)
 ReadsBy value outcome (Err NoMemory) new = Unit {0}
 
-abbrev pub Reads : {A : Type 0} → Option (A × List Token) → Result A Stop → List Token → Type 0
+abbrev pub Reads : {A : Type 0} → Option A × List Placed → Result A Stop → List Placed → Type 0
 Reads = ReadsBy (λ a. a)
 
 -- a value that needs memory
@@ -61,3 +65,14 @@ pub record IsMain (objects : List Object) (main : Stmt) : Type 0 where
   pub value : main ≡ s.Seq place parts
   pub few : length parts ≤ 200
   pub all : All (IsPart objects) parts
+
+-- the register that an operand names has this width, and a constant fits into it
+abbrev pub Suits : List Object → ℕ → Operand → Type 0
+Suits objects width (operand.Constant bits) = bits < 2 ^ width
+Suits objects width (operand.Register k) = IsFound objects k width
+
+-- the register that is assigned is the object with its number, and has its width
+abbrev pub IsThere : List Object → Begun → Type 0
+IsThere objects begun.End = Unit {0}
+IsThere objects (begun.Delay at) = Unit {0}
+IsThere objects (begun.Assignment at k width) = IsFound objects k width

@@ -7,19 +7,18 @@ ghost use Rattle.hc_run.specs.FirstForm.{IsFirstForm};
 ghost use Rattle.hc_run.specs.Edif.{edif};
 ghost use Rattle.hc_run.specs.Words.{IsBuild};
 ghost use Rattle.hc_run.specs.Answer.{source_limit, Saved, HoldsFront, MovesCounts};
-ghost use Rattle.hc_run.specs.Answer as answer;
 ghost use Rattle.hc_run.specs.Steps.{Filled, FilledFront, Saves, BuildsCore, CompilesSource, Performs};
 
 use crate::circuits::build;
 use crate::due::Due;
 use crate::edif::write_edif;
-use crate::reader::read_first_form;
+use crate::reader::read_source;
 use crate::status::Role;
 use crate::words::read_words;
 use hc_core::Core;
 use hc_net::RawNet;
 use hc_outside::{LoadErr, OpenFile, Store, StoreErr, WriteErr};
-use hc_tree::{Detail, Place, Refusal, Rule};
+use hc_tree::FrontErr;
 use std::alloc::Global;
 
 /// How many bytes a source may have: 4 MiB.
@@ -71,21 +70,10 @@ fn compile<S: Store>(alloc: Global, text: &[u8], name: &str, store: &mut S) -> R
     ensures compiles { CompilesSource text.now name.now (S.state store.old) (S.state store.new) result }
     ensures counts { MovesWrites (S.state store.old) (S.state store.new) }
 {
-    match read_first_form(alloc, text) {
-        Ok(Some(core)) => build_core(alloc, &core, name, store),
-        Ok(None) => Ok(Due::Refused(not_built())),
-        Err(_) => Err(WriteErr::NoMemory),
-    }
-}
-
-/// The refusal of a source that isn't built.
-fn not_built() -> Refusal
-    ensures { result ≡ answer.not_built }
-{
-    Refusal {
-        rule: Rule::NotBuilt,
-        place: Place { line: 1, column: 1 },
-        detail: Detail::Nothing,
+    match read_source(alloc, text) {
+        Ok(core) => build_core(alloc, &core, name, store),
+        Err(FrontErr::Refused(refusal)) => Ok(Due::Refused(refusal)),
+        Err(FrontErr::NoMemory) => Err(WriteErr::NoMemory),
     }
 }
 

@@ -5,6 +5,7 @@ mod build_job;
 mod circuits;
 mod due;
 mod edif;
+mod laws;
 mod reader;
 mod refused;
 mod status;
@@ -14,5 +15,6 @@ mod text;
 mod top;
 mod words;
 
+pub use laws::{core_or_refusal, never_both, one_core, one_first_refusal};
 pub use status::{Role, Status};
 pub use top::hcc;

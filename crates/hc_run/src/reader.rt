@@ -1,9 +1,12 @@
-//! Reads first-form texts: a clock, registers, and one sequence of statements.
+//! Reads sources of the first form: bytes to tokens, and these to a clock, registers, and one sequence of statements.
 
+mod cursor;
+mod declarations;
 mod first_form;
-mod lex;
+mod source;
+mod statements;
+mod step;
 #[cfg(test)]
 mod tests;
-mod tokens;
 
-pub(crate) use first_form::read_first_form;
+pub(crate) use source::read_source;

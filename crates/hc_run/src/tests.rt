@@ -1,14 +1,16 @@
 //! The build job by example: what the clauses say must be what was meant, calls must succeed while memory is left, and
 //! the text must be one that others read.
 ghost use Rattle.std.specs.Prelude.{◌≡◌, false, IfOk};
+ghost use Rattle.hc_run.specs.FirstForm.{IsFirstForm};
 ghost use Rattle.hc_run.specs.Sample.{small};
 
 use crate::circuits::build;
 use crate::edif::write_edif;
-use crate::reader::read_first_form;
+use crate::reader::read_source;
 use crate::refused::refusal_line;
 use crate::status::Status;
 use crate::top::hcc;
+use hc_core::Core;
 use hc_net::{Builder, Cell, FlopName, GateKind, Label, Nets, NoMemory, RawNet};
 use hc_outside::{MemSink, MemStore, Store};
 use hc_tree::{Detail, Name, Node, Place, Refusal, Rule};
@@ -19,8 +21,9 @@ use std::test::Fail;
 const FIRST: &[u8] =
     b"set clock = external \"clk\";\nunsigned 4 x;\nvoid main(void) { x = 5; delay; x = x + 1; }\n";
 
-const SECOND: &[u8] =
-    b"set clock = external \"clk\";\nunsigned 4 x;\nvoid main(void) { x = 5; delay; x = x + 2; }\n";
+/// The first example with another spelling of 5, and a comment after each line.
+const COMMENTED: &[u8] =
+    b"set clock = external \"clk\"; // the clock\nunsigned 4 x; /* four bits */\nvoid main(void) { x = 0x5; delay; x = x + 1; } // main\n";
 
 const BUILD: &str = "build first.hc --edif first.edif";
 
@@ -85,28 +88,56 @@ fn builds_the_first_example(rt: HostRuntime) -> Result<(), Fail> {
     );
     assert!(rt; text.ends_with(b"\n(design main (cellRef main (libraryRef hc))))\n"));
 
-    // No file is open, so the store serves another job, whose file takes the place of the first.
+    // The same core has the same text.
     let text = Vec::from_slice(alloc, text)?;
+    let mut other = holding(alloc, COMMENTED)?;
+    let (status, line) = run(alloc, BUILD, &mut other)?;
+    assert!(rt; matches!(status, Status::Done));
+    assert_eq!(rt; line.as_slice(), BUILT);
+    assert_eq!(rt; other.get("first.edif"), Some(text.as_slice()));
+
+    // No file is open, so the store serves another job, whose file takes the place of the first.
     let (again, _line) = run(alloc, BUILD, &mut store)?;
     assert!(rt; matches!(again, Status::Done));
     assert_eq!(rt; store.get("first.edif"), Some(text.as_slice()));
     Ok(())
 }
 
+/// Sources that are refused, and the rule and place. No such job makes a file.
+const REFUSED: [(&[u8], &str); 8] = [
+    (
+        b"set clock = external \"clk\";\nunsigned 4 x;\nvoid main(void) { x = x + 2; }\n",
+        "NotBuilt at 3:27",
+    ),
+    (b"", "NotBuilt at 1:1"),
+    (b"/* open", "S1 at 1:1"),
+    (b"08", "S1 at 1:1"),
+    (b"set clock = external \"clk\";\n$", "S1 at 2:1"),
+    (&[b'n'; 256], "L1 at 1:1"),
+    (b"struct a;", "S3 at 1:1: struct"),
+    (&[b'('; 201], "L3 at 1:201"),
+];
+
+#[test]
+fn names_the_first_refusal(rt: HostRuntime) -> Result<(), Fail> {
+    let alloc = rt.alloc();
+    for (source, refusal) in &REFUSED {
+        let mut store = holding(alloc, source)?;
+        let (status, line) = run(alloc, BUILD, &mut store)?;
+        assert_eq!(rt; status.number(), 1, "{refusal}");
+        assert_eq!(rt;
+            line.as_slice(),
+            format!(in alloc; "refused {refusal}\n")?.as_bytes(),
+            "{refusal}"
+        );
+        assert_eq!(rt; store.get("first.hc"), Some(*source), "{refusal}");
+        assert!(rt; store.get("first.edif").is_none(), "{refusal}");
+    }
+    Ok(())
+}
+
 /// Words, the file `first.hc`, the status that is due, and the line. No such job makes a file.
-const ROWS: [(&str, &[u8], &str, &[u8]); 14] = [
-    (
-        BUILD,
-        SECOND,
-        "Refused(Refusal { rule: NotBuilt, place: Place { line: 1, column: 1 }, detail: Nothing })",
-        b"refused NotBuilt at 1:1\n",
-    ),
-    (
-        BUILD,
-        b"",
-        "Refused(Refusal { rule: NotBuilt, place: Place { line: 1, column: 1 }, detail: Nothing })",
-        b"refused NotBuilt at 1:1\n",
-    ),
+const ROWS: [(&str, &[u8], &str, &[u8]); 12] = [
     (
         "build other.hc --edif first.edif",
         FIRST,
@@ -210,7 +241,7 @@ fn says_what_a_refusal_says(rt: HostRuntime) -> Result<(), Fail> {
 fn reads_sources_up_to_the_limit(rt: HostRuntime) -> Result<(), Fail> {
     let alloc = rt.alloc();
     for (len, status, line) in [
-        (4_194_304, 1, b"refused NotBuilt at 1:1\n".as_slice()),
+        (4_194_304, 1, b"refused NotBuilt at 1:4194305\n".as_slice()),
         (4_194_305, 8, b"too long: source\n".as_slice()),
     ] {
         let mut store = holding(alloc, vec![in alloc; b' '; len]?.as_slice())?;
@@ -375,6 +406,19 @@ fn number(net: &RawNet, state: &[bool], wanted: u32) -> u128 {
     number
 }
 
+/// The core of a source.
+fn core_of(alloc: Global, source: &[u8]) -> Result<Core, Fail>
+    ensures { IfOk result IsFirstForm }
+{
+    if 4_194_304 < source.len() {
+        return Err("too long")?;
+    }
+    match read_source(alloc, source) {
+        Ok(core) => Ok(core),
+        Err(_) => Err("refused")?,
+    }
+}
+
 const MOST: u128 = 340282366920938463463374607431768211455;
 
 /// Texts of the first form, and the numbers of their registers at each edge.
@@ -417,7 +461,7 @@ const EDGES: [(&[u8], &[&[u128]]); 4] = [
 fn does_edge_by_edge_what_the_text_says(rt: HostRuntime) -> Result<(), Fail> {
     let alloc = rt.alloc();
     for (text, edges) in &EDGES {
-        let core = read_first_form(alloc, text)?.ok_or("refused")?;
+        let core = core_of(alloc, text)?;
         let net = build(alloc, &core)?;
         let raw = net.raw();
         let mut state = first_bits(alloc, raw)?;

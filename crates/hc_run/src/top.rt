@@ -4,13 +4,12 @@ ghost use Rattle.hc_outside.specs.Count.{HasRisen};
 ghost use Rattle.hc_outside.specs.Store.{IsMissing, SameFiles};
 ghost use Rattle.hc_core.specs.declared.object.Core.{Core};
 ghost use Rattle.hc_tree.specs.declared.refusal.Refusal.{Refusal};
-ghost use Rattle.hc_run.specs.FirstForm.{first_form};
 ghost use Rattle.hc_run.specs.Words.{IsBuild, HasNoJob};
 ghost use Rattle.hc_run.specs.declared.status.Role.{Role};
 ghost use Rattle.hc_run.specs.Answer.{
   source_limit,
-  not_built,
   Accepted,
+  First,
   IsDone,
   IsRefused,
   IsUsage,
@@ -30,6 +29,7 @@ ghost use Rattle.hc_run.specs.Steps.{Answers, Reports, status_of, text_of};
 
 use crate::build_job::perform;
 use crate::due::Due;
+use crate::laws::{never_both, one_first_refusal};
 use crate::status::{Role, Status};
 use hc_outside::{Sink, Store, WriteErr, write_all};
 use std::alloc::Global;
@@ -69,9 +69,9 @@ pub fn hcc<S: Store, K: Sink>(alloc: Global, words: &[String], store: &mut S, ou
         (result ≡ Status.Longer Role.Source)
         ⊎ LoadFails (S.state store.old) (S.state store.new) result
         ⊎ LineFails (K.state out.old) (K.state out.new) result }
-    ensures refused_where { (file name bytes : List ℕ) → IsBuild (map string_bytes words.now) file name →
-        HasFile (S.state store.old).disk file bytes → length bytes ≤ source_limit → first_form bytes ≡ None →
-        (result ≡ Status.Refused not_built)
+    ensures refused_where { (file name bytes : List ℕ) (refusal : Refusal) → IsBuild (map string_bytes words.now) file name →
+        HasFile (S.state store.old).disk file bytes → length bytes ≤ source_limit → First bytes refusal →
+        (result ≡ Status.Refused refusal)
         ⊎ LoadFails (S.state store.old) (S.state store.new) result
         ⊎ LineFails (K.state out.old) (K.state out.new) result }
     ensures completeness { (file name bytes : List ℕ) (core : Core) → IsBuild (map string_bytes words.now) file name →
@@ -90,6 +90,9 @@ pub fn hcc<S: Store, K: Sink>(alloc: Global, words: &[String], store: &mut S, ou
     ensures sure_reads { (S.state store.old).sure ≡ true → (role : Role) → result ≡ Status.ReadFault role →
         (file name : List ℕ) → IsBuild (map string_bytes words.now) file name → IsMissing (S.state store.old).disk file }
 {
+    // The laws that `refused_where` and `completeness` stand on.
+    one_first_refusal();
+    never_both();
     answer(alloc, words, store, out)
 }
 

@@ -1,7 +1,8 @@
 ghost use Rattle.std.specs.Prelude.{◌≡◌, OnOk};
-ghost use Rattle.hc_core.specs.Program.{Assign};
-ghost use Rattle.hc_core.specs.Read.{expression, statement};
+ghost use Rattle.hc_core.specs.Residual.{Assign};
+ghost use Rattle.hc_run.specs.Forms.{value_of, residual_of};
 ghost use Rattle.hc_core.specs.declared.stmt.Target.TheVariants.{Reg};
+ghost use Rattle.hc_run.specs.FirstForm.{IsRegisterTarget};
 ghost use Rattle.hc_run.specs.Action.{CanAct, Acts};
 ghost use Rattle.hc_run.specs.FirstForm.{IsAction};
 
@@ -23,8 +24,8 @@ fn assign(
     register: u32,
     e: &Expr,
 ) -> Result<(), NoMemory>
-    requires { CanAct core.now at.now b.old token next.old (Assign (Reg register) (expression e.now)) }
-    ensures { OnOk result (Acts core.now at.now b.old b.new token next.old next.new (Assign (Reg register) (expression e.now))) }
+    requires { CanAct core.now at.now b.old token next.old (Assign register (value_of e.now)) }
+    ensures { OnOk result (Acts core.now at.now b.old b.new token next.old next.new (Assign register (value_of e.now))) }
 {
     let given = value(alloc, b, core, at, e)?;
     let chosen = choose(alloc, b, token, &given, &next.as_slice()[register as usize])?;
@@ -33,11 +34,15 @@ fn assign(
 }
 
 /// The register that a target names.
-fn register_of(target: Target) -> u32
-    ensures { target ≡ Reg result }
+fn register_of(target: &Target) -> u32
+    requires { IsRegisterTarget target.now }
+    ensures { target.now ≡ Reg result }
 {
     match target {
-        Target::Reg(k) => k,
+        Target::Reg(k) => *k,
+        Target::Element(_, _) => unreachable!(),
+        Target::Word(_, _) => unreachable!(),
+        Target::Signal(_) => unreachable!(),
     }
 }
 
@@ -52,14 +57,23 @@ pub(crate) fn act(
     part: &Stmt,
 ) -> Result<(), NoMemory>
     requires action { IsAction part.now }
-    requires can { CanAct core.now at.now b.old token next.old (statement part.now) }
-    ensures { OnOk result (Acts core.now at.now b.old b.new token next.old next.new (statement part.now)) }
+    requires can { CanAct core.now at.now b.old token next.old (residual_of part.now) }
+    ensures { OnOk result (Acts core.now at.now b.old b.new token next.old next.new (residual_of part.now)) }
 {
     match part {
         Stmt::Assign { target, value, .. } => {
-            assign(alloc, b, core, at, token, next, register_of(*target), value)
+            assign(alloc, b, core, at, token, next, register_of(target), value)
         }
         Stmt::Delay { .. } => Ok(()),
+        Stmt::Skip => unreachable!(),
+        Stmt::Send { .. } => unreachable!(),
+        Stmt::Recv { .. } => unreachable!(),
+        Stmt::Prialt { .. } => unreachable!(),
         Stmt::Seq { .. } => unreachable!(),
+        Stmt::Par { .. } => unreachable!(),
+        Stmt::If { .. } => unreachable!(),
+        Stmt::While { .. } => unreachable!(),
+        Stmt::DoWhile { .. } => unreachable!(),
+        Stmt::Switch { .. } => unreachable!(),
     }
 }

@@ -1,5 +1,5 @@
 ghost use Rattle.std.specs.Prelude.{◌≡◌, ℕ, length, IfOk, map};
-ghost use Rattle.hc_core.specs.Read.{statement};
+ghost use Rattle.hc_run.specs.Forms.{residual_of};
 ghost use Rattle.hc_run.specs.Progress.{Progress, CanChain};
 
 use crate::circuits::action::act;
@@ -35,7 +35,7 @@ fn begin(
 ) -> Result<(ObjectNets, u32), NoMemory>
     requires { CanChain core.now b.old objects parts.now }
     ensures { IfOk result (λ r. (r.0.objects ≡ objects)
-        × Progress core.now r.0 (map statement parts.now) b.old b.new 0 r.1 objects) }
+        × Progress core.now r.0 (map residual_of parts.now) b.old b.new 0 r.1 objects) }
 {
     let zero = gate(b, GateKind::Zero, 0, 0)?;
     let one = gate(b, GateKind::One, 0, 0)?;
@@ -54,7 +54,7 @@ pub(crate) fn chain(
 ) -> Result<(ObjectNets, Items<Nets>), NoMemory>
     requires { CanChain core.now b.old objects parts.now }
     ensures { IfOk result (λ r. (r.0.objects ≡ objects) × ((last : ℕ)
-        × Progress core.now r.0 (map statement parts.now) b.old b.new (length parts.now) last r.1)) }
+        × Progress core.now r.0 (map residual_of parts.now) b.old b.new (length parts.now) last r.1)) }
 {
     let (at, first) = begin(b, core, objects, parts)?;
     let mut next = copies(alloc, &at.objects)?;

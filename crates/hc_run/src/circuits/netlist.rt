@@ -20,8 +20,17 @@ fn parts_of(core: &Core) -> &[Stmt]
 {
     match &core.main {
         Stmt::Seq { parts, .. } => parts.as_slice(),
+        Stmt::Skip => unreachable!(),
         Stmt::Assign { .. } => unreachable!(),
         Stmt::Delay { .. } => unreachable!(),
+        Stmt::Send { .. } => unreachable!(),
+        Stmt::Recv { .. } => unreachable!(),
+        Stmt::Prialt { .. } => unreachable!(),
+        Stmt::Par { .. } => unreachable!(),
+        Stmt::If { .. } => unreachable!(),
+        Stmt::While { .. } => unreachable!(),
+        Stmt::DoWhile { .. } => unreachable!(),
+        Stmt::Switch { .. } => unreachable!(),
     }
 }
 

@@ -1,7 +1,7 @@
 ghost use Rattle.std.specs.Prelude.{◌≡◌, ◌<◌, ◌≤◌, ℕ, ◌+◌, ◌*◌, ◌^◌, length, IfOk, Bool, Some, slice_get};
 ghost use Rattle.hc_num.specs.Number.{Number};
-ghost use Rattle.hc_core.specs.Run.{kinds_of};
-ghost use Rattle.hc_core.specs.Sound.{IsSound};
+ghost use Rattle.hc_core.specs.Typed.{kinds_of};
+ghost use Rattle.hc_run.specs.Forms.{HasForms};
 ghost use Rattle.hc_run.specs.Machine.{width_of, first_bits, MakesRegister, MakesRegisters};
 
 use hc_core::{Core, Kind};
@@ -9,13 +9,20 @@ use hc_net::{Builder, FlopName, Nets, NoMemory};
 use sqlite_items::Items;
 use std::alloc::Global;
 
-/// The width and the first bits of a register.
+/// The width and the first bits of a register; no other object is built.
 fn first_number(kind: &Kind) -> (u32, u128)
     ensures width { result.0 ≡ width_of kind.now }
     ensures bits { result.1 ≡ first_bits kind.now }
 {
     match kind {
         Kind::Reg { width, init, .. } => (*width, init.bits()),
+        Kind::Array { .. } => (0, 0),
+        Kind::Ram { .. } => (0, 0),
+        Kind::Rom { .. } => (0, 0),
+        Kind::Signal { .. } => (0, 0),
+        Kind::Chan { .. } => (0, 0),
+        Kind::Input { .. } => (0, 0),
+        Kind::Output { .. } => (0, 0),
     }
 }
 
@@ -46,7 +53,7 @@ pub(crate) fn registers(
     b: &mut Builder,
     core: &Core,
 ) -> Result<Items<Nets>, NoMemory>
-    requires sound { IsSound core.now }
+    requires sound { HasForms core.now }
     requires few { length core.now.objects ≤ 100 }
     requires room { length b.old.nodes + 12900 < 2 ^ 32 }
     ensures { IfOk result (MakesRegisters (kinds_of core.now.objects) b.old b.new) }

@@ -1,10 +1,10 @@
 ghost use Rattle.std.specs.Prelude.{◌≡◌, IfOk};
-ghost use Rattle.hc_core.specs.Read.{expression};
+ghost use Rattle.hc_run.specs.Forms.{value_of};
 ghost use Rattle.hc_run.specs.Constant.{constant_nets};
 ghost use Rattle.hc_run.specs.Objects.{CanCompute, ComputesValue};
 
 use crate::circuits::adder::add;
-use hc_core::{BinOp, Core, Expr};
+use hc_core::{Core, Expr};
 use hc_net::{Builder, Nets, NoMemory};
 use hc_num::Num;
 use sqlite_items::Items;
@@ -38,16 +38,24 @@ pub(crate) fn value(
     at: &ObjectNets,
     e: &Expr,
 ) -> Result<Nets, NoMemory>
-    requires { CanCompute core.now at.now b.old.nodes (expression e.now) }
-    ensures { IfOk result (ComputesValue core.now at.now b.old b.new (expression e.now)) }
+    requires { CanCompute core.now at.now b.old.nodes (value_of e.now) }
+    ensures { IfOk result (ComputesValue core.now at.now b.old b.new (value_of e.now)) }
 {
     match e {
         Expr::Const(n) => constant(alloc, at.zero, at.one, *n),
         Expr::Reg(k) => Nets::from_slice(alloc, at.objects.as_slice()[*k as usize].as_slice()),
-        Expr::Binary(BinOp::Add, x, y) => {
+        // a sum: no other operator is built
+        Expr::Binary(_, x, y) => {
             let x = value(alloc, b, core, at, x.get())?;
             let y = value(alloc, b, core, at, y.get())?;
             add(alloc, b, at.zero, &x, &y)
         }
+        Expr::Element(_, _) => unreachable!(),
+        Expr::Word(_, _) => unreachable!(),
+        Expr::Signal(_) => unreachable!(),
+        Expr::Input(_) => unreachable!(),
+        Expr::Unary(_, _) => unreachable!(),
+        Expr::Slice(_, _, _) => unreachable!(),
+        Expr::Choice(_, _, _) => unreachable!(),
     }
 }

@@ -33,10 +33,10 @@ pub returns-clause-longer_where : goal.returns-clause-longer_where
 returns-clause-longer_where g c = longer_where _ _ _ _ _ _ c.answer.ensures.answers
 
 pub returns-clause-refused_where : goal.returns-clause-refused_where
-returns-clause-refused_where g c = refused_where _ _ _ _ _ _ c.answer.ensures.answers
+returns-clause-refused_where g c = refused_where c.one_first_refusal.ensures c.never_both.ensures _ _ _ _ _ _ c.answer.ensures.answers
 
 pub returns-clause-completeness : goal.returns-clause-completeness
-returns-clause-completeness g c = completeness _ _ _ _ _ _ c.answer.ensures.answers
+returns-clause-completeness g c = completeness c.never_both.ensures _ _ _ _ _ _ c.answer.ensures.answers
 
 pub returns-clause-files_kept : goal.returns-clause-files_kept
 returns-clause-files_kept g c = files_kept _ _ _ _ _ _ c.answer.ensures.answers

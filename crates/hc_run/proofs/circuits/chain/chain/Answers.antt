@@ -1,13 +1,13 @@
 -- The chain grows by an action and its token.
 use Rattle.std.proofs.Common.{◌≡◌, ℕ, List, length, map, sym, ◌∙◌, subst, arith}
-use Rattle.hc_core.specs.Read.{statement}
+use Rattle.hc_run.specs.Forms.{residual_of}
 use Rattle.hc_run.specs.Progress.{Progress}
 use Rattle.hc_run.proofs.Chain.{can_act, advances, token_room}
 use Rattle.hc_run.proofs.circuits.chain.chain.Goals as goal
 
 pub loop-i-init : goal.loop-i-init
 loop-i-init c =
-    subst (λ (n : List (List ℕ)). Progress c.args.core.now c.in_ok-at.at (map statement c.args.parts.now) c.args.b.now c.begin.new.b 0 c.in_ok-at.first n)
+    subst (λ (n : List (List ℕ)). Progress c.args.core.now c.in_ok-at.at (map residual_of c.args.parts.now) c.args.b.now c.begin.new.b 0 c.in_ok-at.first n)
     (sym (c.in_ok-next.ensures ∙ c.in_ok-at.ensures.0)) c.in_ok-at.ensures.1
 
 pub act-requires-clause-can : goal.act-requires-clause-can
@@ -29,6 +29,6 @@ returns c =
       c.in_ok-at.ensures.0,
       (
         c.loop-i.holder,
-        subst (λ n. Progress c.args.core.now c.in_ok-at.at (map statement c.args.parts.now) c.args.b.now c.loop-i.b n c.loop-i.holder c.loop-i.next) all c.loop-i.invariant,
+        subst (λ n. Progress c.args.core.now c.in_ok-at.at (map residual_of c.args.parts.now) c.args.b.now c.loop-i.b n c.loop-i.holder c.loop-i.next) all c.loop-i.invariant,
       ),
     )

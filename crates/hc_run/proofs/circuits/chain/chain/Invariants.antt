@@ -1,7 +1,7 @@
 use Rattle.std.proofs.Common.{map}
-use Rattle.hc_core.specs.Read.{statement}
+use Rattle.hc_run.specs.Forms.{residual_of}
 use Rattle.hc_run.specs.Progress.{Progress}
 use Rattle.hc_run.proofs.circuits.chain.chain.Given as goal
 
 abbrev pub invariant-loop-i : goal.invariant-loop-i
-invariant-loop-i l = Progress l.core l.at (map statement l.parts) l.fn.b l.b l.i l.holder l.next
+invariant-loop-i l = Progress l.core l.at (map residual_of l.parts) l.fn.b l.b l.i l.holder l.next

@@ -4,9 +4,13 @@ use Rattle.hc_net.specs.Circuit.{Circuit}
 use Rattle.hc_net.specs.Seal.{Seals}
 use Rattle.hc_run.specs.Headline.{Implements}
 use Rattle.hc_run.proofs.Building.{can_chain, ready}
+use Rattle.hc_run.proofs.BuiltForms.{has_forms}
 use Rattle.hc_run.proofs.Implements.{Ready, Built, ready_unfed, ready_below, ready_room, sealable, implements}
 use Rattle.hc_run.proofs.Values.{if_ok}
 use Rattle.hc_run.proofs.circuits.netlist.build.Goals as goal
+
+pub registers-requires-clause-sound : goal.registers-requires-clause-sound
+registers-requires-clause-sound c = has_forms _ c.requires.sound c.requires.built
 
 pub chain-requires : goal.chain-requires
 chain-requires c = can_chain _ _ _ _ _ _ c.requires c.parts_of-parts.ensures.1 (ap (λ (x : Circuit). x.nodes) c.in_ok-b.ensures) c.in_ok-objects.ensures

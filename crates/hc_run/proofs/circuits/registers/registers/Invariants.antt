@@ -1,5 +1,5 @@
 use Rattle.std.proofs.Common.{take}
-use Rattle.hc_core.specs.Run.{kinds_of}
+use Rattle.hc_core.specs.Typed.{kinds_of}
 use Rattle.hc_run.proofs.Registers.{SomeRegisters}
 use Rattle.hc_run.proofs.circuits.registers.registers.Given as goal
 

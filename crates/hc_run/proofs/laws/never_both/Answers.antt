@@ -1,0 +1,5 @@
+use Rattle.hc_run.proofs.Sources.{never_both}
+use Rattle.hc_run.proofs.laws.never_both.Goals as goal
+
+pub returns : goal.returns
+returns c = never_both c.one_reading.ensures c.never_both.ensures c.passes_without_breach.ensures

@@ -1,0 +1,5 @@
+use Rattle.hc_run.proofs.Sources.{one_core}
+use Rattle.hc_run.proofs.laws.one_core.Goals as goal
+
+pub returns : goal.returns
+returns c = one_core c.one_reading.ensures

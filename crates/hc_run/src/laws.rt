@@ -1,0 +1,39 @@
+ghost use Rattle.std.specs.Prelude.{◌≡◌, ℕ, List, ◌⊎◌};
+ghost use Rattle.hc_core.specs.declared.object.Core.{Core};
+ghost use Rattle.hc_tree.specs.declared.refusal.Refusal.{Refusal};
+ghost use Rattle.hc_run.specs.Answer.{Accepted, First, HasCore, HasRefusal};
+
+/// Bytes have at most one core.
+pub fn one_core()
+    ensures { (bytes : List ℕ) (core other : Core) → Accepted bytes core → Accepted bytes other → core ≡ other }
+{
+    hc_lex::one_reading();
+}
+
+/// All first refusals of the same bytes are equal.
+pub fn one_first_refusal()
+    ensures { (bytes : List ℕ) (refusal other : Refusal) → First bytes refusal → First bytes other → refusal ≡ other }
+{
+    hc_lex::one_reading();
+    hc_lex::one_first_breach();
+    hc_lex::never_both();
+    hc_parse::one_first_breach();
+    hc_parse::passes_without_breach();
+}
+
+/// Bytes have a core or a first refusal.
+pub fn core_or_refusal()
+    ensures { (bytes : List ℕ) → HasCore bytes ⊎ HasRefusal bytes }
+{
+    hc_lex::tokens_or_breach();
+    hc_parse::passes_or_breach();
+}
+
+/// Bytes that have a core have no first refusal.
+pub fn never_both()
+    ensures { (bytes : List ℕ) (core : Core) (refusal : Refusal) → Accepted bytes core → First bytes refusal → ⊥ }
+{
+    hc_lex::one_reading();
+    hc_lex::never_both();
+    hc_parse::passes_without_breach();
+}
