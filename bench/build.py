@@ -3,7 +3,9 @@
 
 Usage: bench/build.py [HCC]      HCC is the program, crates/hcc/out/hcc if none is given
 """
-import os, resource, subprocess, sys, tempfile, time
+import os, tempfile
+
+import measure
 
 
 def source(registers, statements):
@@ -14,31 +16,21 @@ def source(registers, statements):
     return "\n".join(lines) + "\nvoid main(void) { " + body + " }\n"
 
 
-def peak_kib(command):
-    """Runs the command, and gives its seconds, the peak of its memory in KiB, its status and what it printed."""
-    start = time.monotonic()
-    child = subprocess.Popen(command, stdout=subprocess.PIPE)
-    printed = child.stdout.read().decode().strip()
-    _, status, usage = os.wait4(child.pid, 0)
-    return time.monotonic() - start, usage.ru_maxrss, os.waitstatus_to_exitcode(status), printed
-
-
 def main():
-    top = os.path.dirname(os.path.dirname(os.path.abspath(__file__)))
-    program = sys.argv[1] if len(sys.argv) > 1 else os.path.join(top, "crates", "hcc", "out", "hcc")
+    program = measure.program()
     print("registers statements seconds    MiB     bytes  line")
     with tempfile.TemporaryDirectory() as folder:
         name, out = os.path.join(folder, "a.hc"), os.path.join(folder, "a.edif")
         for registers, statements in [(1, 1), (6, 12), (12, 25), (25, 50), (50, 100), (100, 200)]:
             with open(name, "w") as file:
                 file.write(source(registers, statements))
-            seconds, peak, status, printed = peak_kib([program, "build", name, "--edif", out])
+            seconds, peak, status, printed = measure.run([program, "build", name, "--edif", out])
             size = os.path.getsize(out) if status == 0 else 0
             print(f"{registers:9} {statements:10} {seconds:7.3f} {peak / 1024:6.1f} {size:9}  {status} {printed}")
         for size in [1 << 16, 1 << 18, 1 << 20, 1 << 22]:
             with open(name, "w") as file:
                 file.write(" " * (size - 1) + "$")
-            seconds, peak, status, printed = peak_kib([program, "build", name, "--edif", out])
+            seconds, peak, status, printed = measure.run([program, "build", name, "--edif", out])
             print(f"blanks {size:13} {seconds:7.3f} {peak / 1024:6.1f}            {status} {printed}")
 
 
