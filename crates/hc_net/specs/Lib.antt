@@ -5,6 +5,8 @@ pub mod Run
 pub mod Valid
 pub mod Circuit
 pub mod Seal
+pub mod Made
+pub mod MadeLemmas
 pub mod Order
 pub mod Place
 pub mod Sample

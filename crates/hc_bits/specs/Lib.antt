@@ -1,0 +1,4 @@
+pub mod Held
+pub mod Moved
+pub mod Carry
+pub mod Sample
