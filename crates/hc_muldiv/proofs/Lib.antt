@@ -1,0 +1,9 @@
+pub mod Circuits
+pub mod DivisionStep
+pub mod Halves
+pub mod Held
+pub mod LongDivision
+pub mod Products
+pub mod Quotients
+pub mod RowCircuit
+pub mod Values
