@@ -1,0 +1,15 @@
+use Rattle.std.proofs.Common.{arith}
+use Rattle.hc_net.specs.Run.{net_bit}
+use Rattle.hc_netsim.proofs.Passes.{number_fits, one_bit}
+use Rattle.hc_netsim.proofs.outputs.number_on.Goals as goal
+
+pub overflow_mul-number : goal.overflow_mul-number
+overflow_mul-number c =
+    let fits = number_fits (net_bit c.args.values.now) c.args.nets.now c.loop-k.k c.loop-k.number c.loop-k-test.true c.requires.width c.loop-k.invariant in
+    omega arith
+
+pub overflow_add-number : goal.overflow_add-number
+overflow_add-number c =
+    let fits = number_fits (net_bit c.args.values.now) c.args.nets.now c.loop-k.k c.loop-k.number c.loop-k-test.true c.requires.width c.loop-k.invariant in
+    let bit = one_bit _ _ c.from.ensures in
+    omega arith

@@ -1,0 +1,8 @@
+//! What is run clock by clock: a bench takes a number for each input, and gives one for each output.
+#![tactic(auto)]
+
+mod bench;
+#[cfg(test)]
+mod tests;
+
+pub use bench::{Bench, Tick};
