@@ -44,6 +44,10 @@ takes_some read v ts mid a (inl few) =
     let may : may_be_empty f.item ≡ true = reads-empty grammar may_be_empty knows_empty longest.spells none in
     absurd cc
 
+-- an item takes tokens
+pub item_takes : ReadsWhere → (v : Item) (ts mid : List Placed) → Reads grammar f.item ts v mid → length mid < length ts
+item_takes read v ts mid a = takes_some read v ts mid a (either_way (length ts) (length mid))
+
 -- the items of a source end with its tokens
 by_front_item : (t : Placed) (tail : List Placed) (r : Rule Kind Gives f.items) → rule f.items (front (t ∷ tail)) ≡ Some r
     → (vs : Values Gives r.row) (rest : List Placed) → ReadsRow grammar r.row (t ∷ tail) vs rest
@@ -67,7 +71,7 @@ items_end read n [] rest v few (by r vs is row same) = at_end r is vs rest row
 items_end read zero (t ∷ tail) rest v few a = absurd (omega (arith, few))
 items_end read (suc n) (t ∷ tail) rest v few (by r vs is row same) =
     let first = by_front_item t tail r is vs rest row in
-    let less = takes_some read first.0 (t ∷ tail) first.2 first.3 (either_way (length (t ∷ tail)) (length first.2)) in
+    let less = item_takes read first.0 (t ∷ tail) first.2 first.3 in
     items_end read n first.2 rest first.1 (omega (arith, few, less)) first.4
 
 -- a source is read up to the end

@@ -97,7 +97,7 @@ what_is_behind taken at =
 behind_taken : (taken at ts : List Placed) → ts ≡ taken ++ at → drop (length ts - length at) ts ≡ at
 behind_taken taken at ts is = rw is (what_is_behind taken at)
 
-unspelled : ((x : Form) (v : Gives x) (ts rest at : List Placed) → Reads grammar x ts v rest → Stops grammar x ts at → ⊥)
+pub unspelled : ((x : Form) (v : Gives x) (ts rest at : List Placed) → Reads grammar x ts v rest → Stops grammar x ts at → ⊥)
     → ((x : Form) (ts at : List Placed) → Stops grammar x ts at → IsStop grammar x ts (length ts - length at))
     → (ts at : List Placed) (end : Place) → Stops grammar f.program ts at → Unspelled ts end (record { rule = S2; place = place_before end at; detail = Nothing })
 unspelled never where_it ts at end stops =

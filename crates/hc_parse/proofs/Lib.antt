@@ -4,4 +4,13 @@ pub mod Firsts
 pub mod Found
 pub mod Nestings
 pub mod Rows
+pub mod RowsItem
+pub mod Sources
 pub mod Stacks
+pub mod More
+pub mod RowsDeclaration
+pub mod WalksDeclaration
+pub mod WalksItem
+pub mod RowsStatement
+pub mod TurnsStatement
+pub mod WalksStatement

@@ -1,5 +1,9 @@
+pub mod Before
+pub mod CaseHead
 pub mod Checked
+pub mod Initials
 pub mod LeftOut
 pub mod Parsed
 pub mod Refused
 pub mod Stack
+pub mod Turn

@@ -1,3 +1,5 @@
+mod grammar;
+
 use crate::left_out::check_words;
 use crate::nesting::check_nesting;
 use hc_lex::{Tokens, lex};

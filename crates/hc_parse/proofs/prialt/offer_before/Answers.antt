@@ -1,0 +1,16 @@
+use Rattle.std.proofs.Common.{arith}
+use Rattle.hc_lex.specs.declared.mark.Mark.TheVariants as m
+use Rattle.hc_grammar.specs.declared.kind.Kind.TheVariants as kinds
+use Rattle.hc_grammar.specs.Walk as w
+use Rattle.hc_parse.proofs.WalksStatement as more
+use Rattle.hc_parse.proofs.prialt.offer_before.Goals as goal
+
+pub returns-in-Err : goal.returns-in-Err
+returns-in-Err c = λ x begun row gives walk. w.halted walk c.offer.new.c c.in-Err.halt c.in-Err.ensures
+
+pub returns-in-Err-expect : goal.returns-in-Err-expect
+returns-in-Err-expect c = λ x begun row gives walk. w.refused_mark (w.form_read walk c.in-Ok.ensures.0 c.in-Ok.ensures.1) c.expect.new.self c.in-Err-expect.halt c.in-Err-expect.ensures
+
+pub returns-in-Ok-expect : goal.returns-in-Ok-expect
+returns-in-Ok-expect c = let less = w.Reads-shorter c.in-Ok.ensures.0 in let one = more.passed_shorter c.offer.new.c c.expect.new.self (kinds.Mark m.Colon) c.in-Ok-expect.ensures in
+    (λ x begun row gives walk. w.mark_expected (w.form_read walk c.in-Ok.ensures.0 c.in-Ok.ensures.1) c.expect.new.self c.in-Ok-expect.ensures, omega arith)
