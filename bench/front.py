@@ -1,9 +1,9 @@
 #!/usr/bin/env python3
-"""Prints seconds and peak memory of the stages before the core program (tokens, left-out words and nesting) over sources
+"""Prints seconds and peak memory of the stages before the core program (tokens, left-out words, nesting, tree) over sources
 of doubling sizes, from 64 KiB to the limits of 4 MiB and 1,000,000 tokens, good ones and bad ones.
 
 A good source is refused last, as one that isn't built yet, so that all of it was read. The column `a token` is the peak
-beyond that of an empty source, in bytes over the tokens.
+beyond that of an empty source, in bytes over the tokens, the tree with them.
 
 Usage: bench/front.py [HCC]      HCC is the program, crates/hcc/out/hcc if none is given
 """

@@ -11,11 +11,11 @@ use Rattle.hc_tree.specs.declared.refusal.FrontErr.{FrontErr}
 use Rattle.hc_tree.specs.declared.refusal.FrontErr.TheVariants.{Refused, NoMemory}
 use Rattle.hc_tree.specs.declared.refusal.Refusal.{Refusal}
 use Rattle.hc_tree.specs.declared.refusal.Rule.{Rule}
-use Rattle.hc_parse.specs.Checked.{Passes, FirstBreach, HasBreach as HasCheckBreach}
-use Rattle.hc_parse.specs.Refused.{IfRefused}
+use Rattle.hc_tree.specs.declared.item.Tree.{Tree}
+use Rattle.hc_parse.specs.Parsed.{Parses, FirstRefusal, HasTree, HasFirst}
 use Rattle.hc_run.specs.Cursor.{place_at}
 use Rattle.hc_run.specs.FirstForm.{first_form, program}
-use Rattle.hc_run.specs.Answer.{IsSource, Accepted, BreaksTokens, IsNotBuilt, not_built, FirstOfTokens, of_check, of_form, First, of_bytes, of_tokens, IfRefusal, HasCore, HasRefusal}
+use Rattle.hc_run.specs.Answer.{IsSource, Accepted, BreaksTokens, IsNotBuilt, not_built, FirstOfTokens, of_tree, of_form, First, of_bytes, of_tokens, IfRefusal, HasCore, HasRefusal}
 use Rattle.hc_run.proofs.Halting.{has_place, one_place, no_place}
 
 -- ---- what is read of the tokens is so of the bytes
@@ -29,21 +29,16 @@ refused bytes h (Ok core) f = tt
 refused bytes h (Err (Refused refusal)) f = of_tokens (record { lexed = h; breaks = f })
 refused bytes h (Err NoMemory) f = tt
 
--- what the first-form reader answers, of tokens that pass the checks
-pub is_source : (ts : List Placed) → Passes ts → (result : Result Core FrontErr) → IfOk result (λ core. first_form ts ≡ Some core) → IfOk result (IsSource ts)
-is_source ts passes (Ok core) e = record { passes = passes; form = e }
-is_source ts passes (Err e) f = tt
+-- what the first-form reader answers, of tokens that have a tree
+pub is_source : (ts : List Placed) → HasTree ts → (result : Result Core FrontErr) → IfOk result (λ core. first_form ts ≡ Some core) → IfOk result (IsSource ts)
+is_source ts tree (Ok core) e = record { has_tree = tree; form = e }
+is_source ts tree (Err e) f = tt
 
-pub breaks_form : (ts : List Placed) (end : Place) → Passes ts → (result : Result Core FrontErr) → IfErr result (λ e. IfRefusal e (IsNotBuilt ts end))
+pub breaks_form : (ts : List Placed) (end : Place) → HasTree ts → (result : Result Core FrontErr) → IfErr result (λ e. IfRefusal e (IsNotBuilt ts end))
     → IfErr result (λ e. IfRefusal e (FirstOfTokens ts end))
-breaks_form ts end passes (Ok core) f = tt
-breaks_form ts end passes (Err (Refused refusal)) f = of_form (record { passes = passes; breaks = f })
-breaks_form ts end passes (Err NoMemory) f = tt
-
--- what the checks refuse
-pub breaks_check : (ts : List Placed) (end : Place) (e : FrontErr) → IfRefused e (FirstBreach ts) → IfRefusal e (FirstOfTokens ts end)
-breaks_check ts end (Refused refusal) f = of_check f
-breaks_check ts end NoMemory f = tt
+breaks_form ts end tree (Ok core) f = tt
+breaks_form ts end tree (Err (Refused refusal)) f = of_form (record { has_tree = tree; breaks = f })
+breaks_form ts end tree (Err NoMemory) f = tt
 
 -- ---- the laws, from those of the tokens
 
@@ -75,15 +70,15 @@ breach {refusal = refusal} h = record { rule = refusal.rule; place = refusal.pla
 moved : (ts us : List Placed) (end other : Place) (refusal : Refusal) → ts ≡ us → end ≡ other → FirstOfTokens ts end refusal → FirstOfTokens us other refusal
 moved ts us end other refusal e f h = subst (λ a. FirstOfTokens us a refusal) f (subst (λ (z : List Placed). FirstOfTokens z end refusal) e h)
 
--- the laws of the checks
+-- the laws of the trees
 abbrev pub OneRefusal : Type 0
-OneRefusal = (ts : List Placed) (refusal other : Refusal) → FirstBreach ts refusal → FirstBreach ts other → refusal ≡ other
+OneRefusal = (ts : List Placed) (end : Place) (refusal other : Refusal) → FirstRefusal ts end refusal → FirstRefusal ts end other → refusal ≡ other
 
 abbrev pub NoRefusal : Type 0
-NoRefusal = (ts : List Placed) (refusal : Refusal) → Passes ts → FirstBreach ts refusal → ⊥
+NoRefusal = (ts : List Placed) (end : Place) (tree : Tree) (refusal : Refusal) → Parses ts tree → FirstRefusal ts end refusal → ⊥
 
 source_or_refusal : NoRefusal → (ts : List Placed) (end : Place) (core : Core) (refusal : Refusal) → IsSource ts core → FirstOfTokens ts end refusal → ⊥
-source_or_refusal none ts end core refusal h (of_check k) = none ts refusal h.passes k
+source_or_refusal none ts end core refusal h (of_tree k) = none ts end h.has_tree.tree refusal h.has_tree.parses k
 source_or_refusal none ts end core refusal h (of_form k) = no_place ts end k.breaks.place core h.form k.breaks.halts
 
 pub never_both : OneReading → NotBoth → NoRefusal → (bytes : List ℕ) (core : Core) (refusal : Refusal) → Accepted bytes core → First bytes refusal → ⊥
@@ -99,9 +94,9 @@ same_refusal : {r s : Refusal} → r.rule ≡ s.rule → r.place ≡ s.place →
 same_refusal {r} {s} a b c = ap (λ rule. refusal_of rule r.place r.detail) a ∙ ap (λ place. refusal_of s.rule place r.detail) b ∙ ap (refusal_of s.rule s.place) c
 
 one_of_tokens : OneRefusal → NoRefusal → (ts : List Placed) (end : Place) (refusal other : Refusal) → FirstOfTokens ts end refusal → FirstOfTokens ts end other → refusal ≡ other
-one_of_tokens one none ts end refusal other (of_check h) (of_check k) = one ts refusal other h k
-one_of_tokens one none ts end refusal other (of_check h) (of_form k) = absurd (none ts refusal k.passes h)
-one_of_tokens one none ts end refusal other (of_form h) (of_check k) = absurd (none ts other h.passes k)
+one_of_tokens one none ts end refusal other (of_tree h) (of_tree k) = one ts end refusal other h k
+one_of_tokens one none ts end refusal other (of_tree h) (of_form k) = absurd (none ts end k.has_tree.tree refusal k.has_tree.parses h)
+one_of_tokens one none ts end refusal other (of_form h) (of_tree k) = absurd (none ts end h.has_tree.tree other h.has_tree.parses k)
 one_of_tokens one none ts end refusal other (of_form h) (of_form k) =
     h.breaks.is ∙ ap not_built (one_place ts end h.breaks.place k.breaks.place h.breaks.halts k.breaks.halts) ∙ sym k.breaks.is
 
@@ -115,23 +110,23 @@ one_first reading breaks both one none bytes refusal other (of_tokens h) (of_tok
     let same = same_tokens reading h.lexed k.lexed in
     one_of_tokens one none k.lexed.tokens k.lexed.end refusal other (moved h.lexed.tokens k.lexed.tokens h.lexed.end k.lexed.end refusal same.0 same.1 h.breaks) k.breaks
 
--- tokens pass the checks or break one
-abbrev pub OneOfChecks : Type 0
-OneOfChecks = (ts : List Placed) → Passes ts ⊎ HasCheckBreach ts
+-- tokens have a tree or break a rule
+abbrev pub TreeOrRefusal : Type 0
+TreeOrRefusal = (ts : List Placed) (end : Place) → HasTree ts ⊎ HasFirst ts end
 
-of_form_or_core : (bytes : List ℕ) (h : HasTokens 0 start bytes) → Passes h.tokens → (o : Option Core) → first_form h.tokens ≡ o → HasCore bytes ⊎ HasRefusal bytes
-of_form_or_core bytes h passes (Some core) e = inl (record { core = core; accepted = record { lexed = h; source = record { passes = passes; form = e } } })
-of_form_or_core bytes h passes None e =
+of_form_or_core : (bytes : List ℕ) (h : HasTokens 0 start bytes) → HasTree h.tokens → (o : Option Core) → first_form h.tokens ≡ o → HasCore bytes ⊎ HasRefusal bytes
+of_form_or_core bytes h tree (Some core) e = inl (record { core = core; accepted = record { lexed = h; source = record { has_tree = tree; form = e } } })
+of_form_or_core bytes h tree None e =
     let place = place_at h.end (program h.tokens).1 in
-    inr (record { refusal = not_built place; first = of_tokens (record { lexed = h; breaks = of_form (record { passes = passes; breaks = record { place = place; halts = has_place h.tokens h.end e; is = refl } }) }) })
+    inr (record { refusal = not_built place; first = of_tokens (record { lexed = h; breaks = of_form (record { has_tree = tree; breaks = record { place = place; halts = has_place h.tokens h.end e; is = refl } }) }) })
 
-of_checks : (bytes : List ℕ) (h : HasTokens 0 start bytes) → Passes h.tokens ⊎ HasCheckBreach h.tokens → HasCore bytes ⊎ HasRefusal bytes
-of_checks bytes h (inl passes) = of_form_or_core bytes h passes (first_form h.tokens) refl
-of_checks bytes h (inr f) = inr (record { refusal = f.refusal; first = of_tokens (record { lexed = h; breaks = of_check f.first }) })
+of_tree_or_refusal : (bytes : List ℕ) (h : HasTokens 0 start bytes) → HasTree h.tokens ⊎ HasFirst h.tokens h.end → HasCore bytes ⊎ HasRefusal bytes
+of_tree_or_refusal bytes h (inl tree) = of_form_or_core bytes h tree (first_form h.tokens) refl
+of_tree_or_refusal bytes h (inr f) = inr (record { refusal = f.refusal; first = of_tokens (record { lexed = h; breaks = of_tree f.first }) })
 
-either_by : OneOfChecks → (bytes : List ℕ) → HasTokens 0 start bytes ⊎ HasBreach 0 start bytes → HasCore bytes ⊎ HasRefusal bytes
-either_by one bytes (inl h) = of_checks bytes h (one h.tokens)
-either_by one bytes (inr h) = inr (record { refusal = refusal_of h.rule h.place Nothing; first = of_bytes (record { stops = h.stops; detail = refl }) })
+either_by : TreeOrRefusal → (bytes : List ℕ) → HasTokens 0 start bytes ⊎ HasBreach 0 start bytes → HasCore bytes ⊎ HasRefusal bytes
+either_by trees bytes (inl h) = of_tree_or_refusal bytes h (trees h.tokens h.end)
+either_by trees bytes (inr h) = inr (record { refusal = refusal_of h.rule h.place Nothing; first = of_bytes (record { stops = h.stops; detail = refl }) })
 
-pub core_or_refusal : OneOf → OneOfChecks → (bytes : List ℕ) → HasCore bytes ⊎ HasRefusal bytes
-core_or_refusal lexes one bytes = either_by one bytes (lexes 0 start bytes (omega arith))
+pub core_or_refusal : OneOf → TreeOrRefusal → (bytes : List ℕ) → HasCore bytes ⊎ HasRefusal bytes
+core_or_refusal lexes trees bytes = either_by trees bytes (lexes 0 start bytes (omega arith))

@@ -10,7 +10,7 @@ use Rattle.hc_lex.specs.Lexes.{Stops, HasTokens}
 use Rattle.hc_lex.specs.Place.{start}
 use Rattle.hc_lex.specs.declared.token.Placed.{Placed}
 use Rattle.hc_tree.specs.declared.place.Place.{Place}
-use Rattle.hc_parse.specs.Checked.{Passes, FirstBreach}
+use Rattle.hc_parse.specs.Parsed.{HasTree, FirstRefusal}
 use Rattle.hc_tree.specs.declared.refusal.FrontErr.{FrontErr}
 use Rattle.hc_tree.specs.declared.refusal.FrontErr.TheVariants as front
 use Rattle.hc_tree.specs.declared.refusal.Rule.TheVariants.{NotBuilt}
@@ -34,9 +34,9 @@ use Rattle.hc_run.specs.Lines.{built_line, usage_line, read_fault_line, longer_l
 abbrev pub source_limit : ℕ
 source_limit = 4194304
 
--- Tokens of which none is left out or too deep are the first-form list of this core.
+-- Tokens that have a tree are the first-form list of this core.
 pub record IsSource (tokens : List Placed) (core : Core) : Type 0 where
-  pub passes : Passes tokens
+  pub has_tree : HasTree tokens
   pub form : first_form tokens ≡ Some core
 
 -- The bytes are a source of this core: they have tokens within the limits, and these are the core's.
@@ -59,14 +59,15 @@ pub record IsNotBuilt (tokens : List Placed) (end : Place) (refusal : Refusal) :
   pub halts : Halts tokens end place
   pub is : refusal ≡ not_built place
 
--- None of the tokens is left out or too deep, and they are no first-form list.
+-- The tokens have a tree, and they are no first-form list.
 pub record BreaksForm (tokens : List Placed) (end : Place) (refusal : Refusal) : Type 0 where
-  pub passes : Passes tokens
+  pub has_tree : HasTree tokens
   pub breaks : IsNotBuilt tokens end refusal
 
--- Tokens break a rule, and this refusal comes first: what is left out or too deep, then what isn't built.
+-- Tokens break a rule, and this refusal comes first: what they break where they have no tree (a word that is left out, then
+-- the nesting, then the grammar), then what isn't built.
 pub data FirstOfTokens (tokens : List Placed) (end : Place) (refusal : Refusal) : Type 0 where
-  of_check : FirstBreach tokens refusal → FirstOfTokens tokens end refusal
+  of_tree : FirstRefusal tokens end refusal → FirstOfTokens tokens end refusal
   of_form : BreaksForm tokens end refusal → FirstOfTokens tokens end refusal
 
 -- The bytes have tokens within the limits, and this refusal is the first of these.

@@ -17,8 +17,8 @@ pub fn one_first_refusal()
     hc_lex::one_reading();
     hc_lex::one_first_breach();
     hc_lex::never_both();
-    hc_parse::one_first_breach();
-    hc_parse::passes_without_breach();
+    hc_parse::one_first_refusal();
+    hc_parse::never_both();
 }
 
 /// Bytes have a core or a first refusal.
@@ -26,7 +26,7 @@ pub fn core_or_refusal()
     ensures { (bytes : List ℕ) → HasCore bytes ⊎ HasRefusal bytes }
 {
     hc_lex::tokens_or_breach();
-    hc_parse::passes_or_breach();
+    hc_parse::tree_or_refusal();
 }
 
 /// Bytes that have a core have no first refusal.
@@ -35,5 +35,5 @@ pub fn never_both()
 {
     hc_lex::one_reading();
     hc_lex::never_both();
-    hc_parse::passes_without_breach();
+    hc_parse::never_both();
 }

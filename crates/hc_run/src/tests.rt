@@ -18,6 +18,8 @@ use sqlite_items::Items;
 use std::alloc::Global;
 use std::test::Fail;
 
+mod sources;
+
 const FIRST: &[u8] =
     b"set clock = external \"clk\";\nunsigned 4 x;\nvoid main(void) { x = 5; delay; x = x + 1; }\n";
 
@@ -104,10 +106,14 @@ fn builds_the_first_example(rt: HostRuntime) -> Result<(), Fail> {
 }
 
 /// Sources that are refused, and the rule and place. No such job makes a file.
-const REFUSED: [(&[u8], &str); 8] = [
+const REFUSED: [(&[u8], &str); 9] = [
     (
         b"set clock = external \"clk\";\nunsigned 4 x;\nvoid main(void) { x = x + 2; }\n",
         "NotBuilt at 3:27",
+    ),
+    (
+        b"set clock = external \"clk\";\nunsigned 4 x;\nvoid main(void) { x = 1 + ; }\n",
+        "S2 at 3:27",
     ),
     (b"", "NotBuilt at 1:1"),
     (b"/* open", "S1 at 1:1"),

@@ -2,6 +2,7 @@
 
 ghost use Rattle.std.specs.Prelude.{◌≡◌, ◌≤◌, Some, length, IfOk, IfErr};
 ghost use Rattle.std.specs.List.{All};
+ghost use Rattle.hc_parse.specs.Parsed.{HasTree, FirstRefusal};
 ghost use Rattle.hc_run.specs.FirstForm.{IsFirstForm, HasLabel, first_form};
 ghost use Rattle.hc_run.specs.Answer as answer;
 ghost use Rattle.hc_run.specs.Answer.{source_limit, IsSource, Accepted, FirstOfTokens, First, IsNotBuilt, IfRefusal};
@@ -11,11 +12,11 @@ use crate::reader::first_form::program;
 use crate::reader::step::Stop;
 use hc_core::Core;
 use hc_lex::{Tokens, lex, texts_are_plain};
-use hc_parse::check_tokens;
+use hc_parse::parse;
 use hc_tree::{Detail, FrontErr, Place, Refusal, Rule};
 use std::alloc::Global;
 
-/// The core of a source, or its first refusal: S1, L1 or L2 of its bytes, then S3 or L3 of its tokens, and then
+/// The core of a source, or its first refusal: S1, L1 or L2 of its bytes, then S3, L3 or S2 of its tokens, and then
 /// `NotBuilt`.
 pub(crate) fn read_source(alloc: Global, bytes: &[u8]) -> Result<Core, FrontErr>
     requires { length bytes.now ≤ source_limit }
@@ -37,8 +38,19 @@ fn read_checked(alloc: Global, tokens: &Tokens) -> Result<Core, FrontErr>
     ensures form { IfOk result IsFirstForm }
     ensures refused { IfErr result (λ e. IfRefusal e (FirstOfTokens tokens.now.tokens tokens.now.end)) }
 {
-    match check_tokens(alloc, tokens) {
+    match check_tree(alloc, tokens) {
         Ok(()) => read_tokens(alloc, tokens),
+        Err(e) => Err(e),
+    }
+}
+
+/// That tokens have a tree, or their first refusal: S3, L3 or S2.
+fn check_tree(alloc: Global, tokens: &Tokens) -> Result<(), FrontErr>
+    ensures has_tree { IfOk result (λ _. HasTree tokens.now.tokens) }
+    ensures refused { IfErr result (λ e. IfRefusal e (FirstRefusal tokens.now.tokens tokens.now.end)) }
+{
+    match parse(alloc, tokens) {
+        Ok(_) => Ok(()),
         Err(e) => Err(e),
     }
 }

@@ -2,4 +2,4 @@ use Rattle.hc_run.proofs.Sources.{one_first}
 use Rattle.hc_run.proofs.laws.one_first_refusal.Goals as goal
 
 pub returns : goal.returns
-returns c = one_first c.one_reading.ensures c.one_first_breach.ensures c.never_both.ensures c.one_first_breach-2.ensures c.passes_without_breach.ensures
+returns c = one_first c.one_reading.ensures c.one_first_breach.ensures c.never_both.ensures c.one_first_refusal.ensures c.never_both-2.ensures
