@@ -1,0 +1,5 @@
+pub mod Residual
+pub mod Value
+pub mod Control
+pub mod Clock
+pub mod Run
