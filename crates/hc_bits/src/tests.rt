@@ -8,9 +8,8 @@ use crate::{
     add, band, bor, bxor, decode, equal, invert, less_signed, less_unsigned, mux, negate,
     shift_left, shift_right_sign, shift_right_zero, sub, truth,
 };
-use hc_net::{Builder, Cell, Label, Net, Nets, NoMemory, Port, RawNet};
+use hc_net::{Builder, Cell, Label, Net, Nets, NoMemory, Pins, Port, RawNet};
 use hc_num::Num;
-use sqlite_items::Items;
 use std::alloc::Global;
 use std::process::Abort;
 use std::test::Fail;
@@ -123,7 +122,7 @@ fn inputs(alloc: Global, widths: Widths) -> Result<Builder, NoMemory>
     ensures { IfOk result (λ b. b ≡ inputs_and_bit widths.a widths.b) }
 {
     let mut b = Builder::new(alloc, &Label::new(alloc, b"clk")?)?;
-    let pins = Items::new(alloc);
+    let pins = Pins::new(alloc);
     b.input(&Label::new(alloc, b"a")?, widths.a, &pins)?;
     b.input(&Label::new(alloc, b"b")?, widths.b, &pins)?;
     b.input(&Label::new(alloc, b"c")?, 1, &pins)?;
@@ -260,7 +259,7 @@ fn sealed(alloc: Global, mut b: Builder, widths: Widths, from: &Nets) -> Result<
     requires some { 1 ≤ length from.now }
     requires most { length from.now ≤ 128 }
 {
-    b.output(&Label::new(alloc, b"y")?, &Items::new(alloc), from)?;
+    b.output(&Label::new(alloc, b"y")?, &Pins::new(alloc), from)?;
     b.seal()
 }
 

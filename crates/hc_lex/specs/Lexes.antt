@@ -7,7 +7,7 @@ use Rattle.hc_tree.specs.declared.refusal.Rule.TheVariants.{S1, L1, L2}
 use Rattle.hc_tree.specs.declared.refusal.Detail.TheVariants.{Nothing}
 use Rattle.hc_tree.specs.declared.refusal.FrontErr.{FrontErr}
 use Rattle.hc_tree.specs.declared.refusal.FrontErr.TheVariants.{Refused, NoMemory}
-use Rattle.hc_lex.specs.Front.{front, is_text_byte}
+use Rattle.hc_lex.specs.Front.{front, is_word_byte, is_text_byte}
 use Rattle.hc_lex.specs.Place.{place_behind}
 use Rattle.hc_lex.specs.declared.front.Kind.{Kind}
 use Rattle.hc_lex.specs.declared.front.Kind.TheVariants as k
@@ -43,9 +43,9 @@ is_short (Mark mark) = true
 abbrev pub IsShort : Placed → Type 0
 IsShort t = IsTrue (is_short t.token)
 
--- between the quotes of a text there are plain bytes alone
+-- a word has letters, digits and `_` alone, and between the quotes of a text there are plain bytes alone
 abbrev pub is_plain : Token → Bool
-is_plain (Word name) = true
+is_plain (Word name) = list_all is_word_byte name
 is_plain (Number n) = true
 is_plain (Text bytes) = list_all is_text_byte bytes
 is_plain (Mark mark) = true

@@ -27,7 +27,7 @@ pub fn never_both()
     ensures { (before : ℕ) (at : Place) (bytes : List ℕ) → HasTokens before at bytes → HasBreach before at bytes → ⊥ }
 {}
 
-/// A text has bytes from 32 to 126 without `"`, `\` and `%` between its quotes.
-pub fn texts_are_plain()
+/// A word has letters, digits and `_`, and a text bytes from 32 to 126 without `"`, `\` and `%` between its quotes.
+pub fn tokens_are_plain()
     ensures { (at : Place) (bytes : List ℕ) (ts : List Placed) (end : Place) → Lexes at bytes ts end → All IsPlain ts }
 {}

@@ -11,7 +11,7 @@ mod number;
 mod place;
 mod token;
 
-pub use laws::{never_both, one_first_breach, one_reading, texts_are_plain, tokens_or_breach};
+pub use laws::{never_both, one_first_breach, one_reading, tokens_are_plain, tokens_or_breach};
 pub use lexer::lex;
 pub use mark::Mark;
 pub use token::{Placed, Token, Tokens};

@@ -5,9 +5,8 @@ ghost use Rattle.std.specs.List.{range_with_len};
 ghost use Rattle.hc_bits.specs.Sample.{inputs, Drives};
 
 use crate::{quotient, remainder, times};
-use hc_net::{Builder, Cell, Label, Net, Nets, NoMemory, Port, RawNet};
+use hc_net::{Builder, Cell, Label, Net, Nets, NoMemory, Pins, Port, RawNet};
 use hc_num::Num;
-use sqlite_items::Items;
 use std::alloc::Global;
 use std::process::Abort;
 use std::test::Fail;
@@ -60,7 +59,7 @@ fn inputs(alloc: Global, width: u32) -> Result<Builder, NoMemory>
     ensures { IfOk result (λ b. b ≡ inputs width width) }
 {
     let mut b = Builder::new(alloc, &Label::new(alloc, b"clk")?)?;
-    let pins = Items::new(alloc);
+    let pins = Pins::new(alloc);
     b.input(&Label::new(alloc, b"a")?, width, &pins)?;
     b.input(&Label::new(alloc, b"b")?, width, &pins)?;
     Ok(b)
@@ -103,7 +102,7 @@ fn sealed(alloc: Global, mut b: Builder, width: u32, from: &Nets) -> Result<Net,
     requires some { 1 ≤ length from.now }
     requires most { length from.now ≤ 128 }
 {
-    b.output(&Label::new(alloc, b"y")?, &Items::new(alloc), from)?;
+    b.output(&Label::new(alloc, b"y")?, &Pins::new(alloc), from)?;
     b.seal()
 }
 

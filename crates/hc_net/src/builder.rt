@@ -8,10 +8,11 @@ ghost use Rattle.hc_net.specs.declared.node.Node.{Node};
 ghost use Rattle.hc_net.specs.declared.node.Node.TheVariants.{Flop, Wire, Gate};
 
 use crate::gate::GateKind;
-use crate::label::{Label, Pins};
+use crate::label::Label;
 use crate::net::{FlopName, Net, Port, Ports};
 use crate::nets::{Nets, NoMemory};
 use crate::node::{Node, Nodes};
+use crate::pins::Pins;
 use crate::seal::sealed;
 use sqlite_items::Items;
 use std::alloc::Global;
@@ -96,7 +97,7 @@ impl Builder {
         let port = Port::Input {
             name: Label::new(self.alloc, name.as_bytes())?,
             width,
-            pins: copy_pins(self.alloc, pins.as_slice())?,
+            pins: pins.copy(self.alloc)?,
         };
         add_input(&mut self.ports, &mut self.nodes, port, self.inputs, width)?;
         self.inputs += 1;
@@ -114,7 +115,7 @@ impl Builder {
         let port = Port::Output {
             name: Label::new(self.alloc, name.as_bytes())?,
             width,
-            pins: copy_pins(self.alloc, pins.as_slice())?,
+            pins: pins.copy(self.alloc)?,
             from: Nets::from_slice(self.alloc, from.as_slice())?,
         };
         match self.ports.push(port) {
@@ -214,20 +215,6 @@ fn run_of_nets(alloc: Global, first: u32, count: u32) -> Result<Nets, NoMemory>
         nets.push(first + i)?;
     }
     Ok(nets)
-}
-
-/// A copy of the pins of a port.
-fn copy_pins(alloc: Global, pins: &[Label]) -> Result<Pins, NoMemory>
-    ensures { IfOk result (λ copy. copy ≡ pins.now) }
-{
-    let mut copy = Items::new(alloc);
-    for pin in pins {
-        let pin = Label::new(alloc, pin.as_bytes())?;
-        if copy.push(pin).is_err() {
-            return Err(NoMemory);
-        }
-    }
-    Ok(copy)
 }
 
 /// Adds a port and the nodes of its bits. An error leaves both lists as they were.

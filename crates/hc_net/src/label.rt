@@ -2,8 +2,8 @@ ghost use Rattle.std.specs.Prelude.{◌≡◌, IfOk};
 ghost use Rattle.hc_net.specs.Label.{IsLabel};
 
 use crate::nets::NoMemory;
-use sqlite_items::Items;
 use std::alloc::Global;
+use std::default::MadeWith;
 use std::marker::Model;
 
 /// A name as the texts of a netlist can hold it: at most 255 bytes from 32 to 126 without `"`, `\` and `%`.
@@ -23,8 +23,18 @@ impl Model for Label {
     ghost invariant = { λ l. IsLabel l.bytes.items };
 }
 
-/// The pins of a port: none, or one for each bit, the lowest bit first.
-pub type Pins = Items<Label>;
+/// The empty label stands in free room.
+impl MadeWith<Global> for Label {
+    ghost use Rattle.std.specs.Prelude.{◌≡◌, []};
+
+    ghost is_made_with = { λ l. l ≡ [] };
+
+    fn made_with(alloc: Global) -> Label {
+        Label {
+            bytes: Vec::new(alloc),
+        }
+    }
+}
 
 impl Label {
     /// The label with these bytes.

@@ -11,14 +11,16 @@ mod laws;
 mod net;
 mod nets;
 mod node;
+mod pins;
 mod seal;
 #[cfg(test)]
 mod tests;
 
 pub use builder::Builder;
 pub use gate::GateKind;
-pub use label::{Label, Pins};
+pub use label::Label;
 pub use laws::settles_once;
 pub use net::{Cell, Cells, Flop, FlopName, Flops, Net, Port, Ports, RawNet};
 pub use nets::{Nets, NoMemory};
 pub use node::{Node, Nodes};
+pub use pins::Pins;

@@ -1,8 +1,9 @@
 ghost use Rattle.std.specs.Prelude.{◌≡◌};
 ghost use Rattle.hc_net.specs.Valid.{IsValid};
 
-use crate::label::{Label, Pins};
+use crate::label::Label;
 use crate::nets::Nets;
+use crate::pins::Pins;
 use sqlite_items::Items;
 use std::marker::Model;
 

@@ -3,10 +3,10 @@ ghost use Rattle.hc_net.specs.Sample.{all_gates, no_gates, open_gates, open_wire
 
 use crate::builder::Builder;
 use crate::gate::GateKind;
-use crate::label::{Label, Pins};
+use crate::label::Label;
 use crate::net::{FlopName, Net, Port};
 use crate::nets::{Nets, NoMemory};
-use sqlite_items::Items;
+use crate::pins::Pins;
 use std::alloc::Global;
 use std::test::Fail;
 
@@ -17,7 +17,7 @@ fn no_gates(alloc: Global) -> Result<Builder, NoMemory>
     let clock = Label::new(alloc, b"clk")?;
     let name = Label::new(alloc, b"a")?;
     let mut b = Builder::new(alloc, &clock)?;
-    b.input(&name, 2, &Items::new(alloc))?;
+    b.input(&name, 2, &Pins::new(alloc))?;
     b.flop(FlopName::Token(7), true)?;
     b.wire(0)?;
     Ok(b)
@@ -47,7 +47,7 @@ fn all_gates(alloc: Global) -> Result<Builder, NoMemory>
     b.drive(3, 7);
     let name = Label::new(alloc, b"y")?;
     let from = Nets::from_slice(alloc, &[3, 9])?;
-    b.output(&name, &Items::new(alloc), &from)?;
+    b.output(&name, &Pins::new(alloc), &from)?;
     Ok(b)
 }
 
@@ -58,7 +58,7 @@ fn open_wires(alloc: Global) -> Result<Builder, NoMemory>
     let clock = Label::new(alloc, b"clk")?;
     let name = Label::new(alloc, b"a")?;
     let mut b = Builder::new(alloc, &clock)?;
-    b.input(&name, 1, &Items::new(alloc))?;
+    b.input(&name, 1, &Pins::new(alloc))?;
     b.wire(1)?;
     b.wire(0)?;
     Ok(b)
@@ -74,7 +74,7 @@ fn two_wires(alloc: Global) -> Result<Builder, NoMemory>
     b.drive(2, 0);
     let name = Label::new(alloc, b"y")?;
     let from = Nets::from_slice(alloc, &[1])?;
-    b.output(&name, &Items::new(alloc), &from)?;
+    b.output(&name, &Pins::new(alloc), &from)?;
     Ok(b)
 }
 

@@ -3,9 +3,8 @@ ghost use Rattle.hc_netsim.specs.Running.{input_widths, output_count};
 ghost use Rattle.hc_netsim.specs.Sample.{HasPorts, counter, open_flops, with_high, with_low};
 
 use crate::gates::Gates;
-use hc_net::{Builder, FlopName, GateKind, Label, Net, Nets, NoMemory};
+use hc_net::{Builder, FlopName, GateKind, Label, Net, Nets, NoMemory, Pins};
 use hc_stim::{Bench, Tick};
-use sqlite_items::Items;
 use std::alloc::Global;
 use std::process::Abort;
 use std::test::Fail;
@@ -24,7 +23,7 @@ fn open_flops(alloc: Global) -> Result<Builder, NoMemory>
     let clock = Label::new(alloc, b"c")?;
     let name = Label::new(alloc, b"a")?;
     let mut b = Builder::new(alloc, &clock)?;
-    b.input(&name, 2, &Items::new(alloc))?;
+    b.input(&name, 2, &Pins::new(alloc))?;
     b.flop(bit(0), false)?;
     b.flop(bit(1), true)?;
     b.flop(bit(2), true)?;
@@ -71,7 +70,7 @@ fn counter(alloc: Global) -> Result<Builder, NoMemory>
     b.feed(5, 15);
     let name = Label::new(alloc, b"q")?;
     let from = Nets::from_slice(alloc, &[2, 3])?;
-    b.output(&name, &Items::new(alloc), &from)?;
+    b.output(&name, &Pins::new(alloc), &from)?;
     Ok(b)
 }
 

@@ -6,7 +6,7 @@ use Rattle.hc_net.proofs.builder.Builder.output.Goals.{in-Ok, in-Err}
 
 pub invariant_of-self : goal.invariant_of-self
 invariant_of-self c =
-    let same : c.in_ok-from_slice.field-0 ≡ c.args.from.now = c.in_ok-from_slice.ensures ∙ c.as_slice-2.ensures in
+    let same : c.in_ok-from_slice.field-0 ≡ c.args.from.now = c.in_ok-from_slice.ensures ∙ c.as_slice.ensures in
     let nets = subst (λ (l : List ℕ). All (λ k. k < length c.args.self.now.nodes) l) (sym same) c.requires.nets in
     let wide : c.min-width.result ≡ min (length c.in_ok-from_slice.field-0) (2 ^ 32 - 1) = c.min-width.ensures ∙ ap (λ n. min n (2 ^ 32 - 1)) (c.len.ensures ∙ ap length (sym same)) in
     elim c.match-push.branch [
