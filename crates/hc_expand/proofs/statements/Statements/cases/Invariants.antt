@@ -1,0 +1,20 @@
+use Rattle.std.proofs.Common.{length, map}
+use Rattle.hc_core.specs.Read.{cases, case_before}
+use Rattle.hc_core.specs.Sound.{CasesTyped}
+use Rattle.hc_core.specs.Typed.{kinds_of}
+use Rattle.hc_expand.specs.Nodes.{nodes}
+use Rattle.hc_expand.specs.Reading.{context_of}
+use Rattle.hc_expand.specs.Sound.{Grows}
+use Rattle.hc_expand.proofs.Each.{Along}
+use Rattle.hc_expand.proofs.statements.Statements.cases.Given as goal
+
+-- the cases so far, with those of the rest behind, are those of the whole list
+abbrev pub invariant-each : goal.invariant-each
+invariant-each g l = record {
+  along : Along ((nodes l.self.room).case (context_of l.scope l.calls)) l.fn.all l.fn.state (map case_before l.done) l.rest l.state;
+  typed : CasesTyped (kinds_of l.state.objects) (cases l.done);
+  grows : Grows l.fn.state.objects l.state.objects;
+}
+
+abbrev pub decreases-each : goal.decreases-each
+decreases-each g l = length l.rest

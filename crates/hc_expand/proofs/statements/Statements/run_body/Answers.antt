@@ -1,0 +1,17 @@
+use Rattle.std.specs.Prelude.{◌+◌}
+use Rattle.hc_core.specs.Program.{Seq}
+use Rattle.hc_core.specs.Read.{statement}
+use Rattle.hc_expand.specs.Expansion.{◌>>=◌, pure}
+use Rattle.hc_expand.specs.Expression.{call_context}
+use Rattle.hc_expand.specs.Nodes.{nodes}
+use Rattle.hc_expand.specs.Reading.{scope_of, context_of}
+use Rattle.hc_expand.specs.Statement.{in_order}
+use Rattle.hc_expand.proofs.Steps.{err_then}
+use Rattle.hc_expand.proofs.statements.Statements.run_body.Goals as goal
+
+pub returns-in-Err-clause-answers : goal.returns-in-Err-clause-answers
+returns-in-Err-clause-answers g c =
+    let s = c.args.state.now in
+    err_then (λ inner. context_of inner (c.args.calls + 1)) statement
+    (call_context (context_of c.args.scope.now c.args.calls) c.args.x.now c.args.parameters.now (scope_of c.args.around.now) c.args.arguments.now s)
+    (λ inner. (nodes c.args.self.now.room).block inner c.args.body.now >>= (λ parts. pure (Seq c.args.place (in_order parts)))) c.in-Err.e s s (c.in-Err.ensures c.args.calls s)
