@@ -21,6 +21,3 @@ pub use list::{args, more_exprs};
 pub use names::{name, text};
 pub use parse::parse_expr;
 pub use types::type_of;
-
-#[cfg(test)]
-mod tests;

@@ -32,8 +32,6 @@ mod signals;
 mod source;
 mod statement;
 mod switch;
-#[cfg(test)]
-mod tests;
 mod variables;
 mod with_list;
 mod written;

@@ -9,7 +9,7 @@ use Rattle.hc_core.specs.Read.{target, statement}
 use Rattle.hc_core.specs.Clock.{Store, words, with_word}
 use Rattle.hc_core.specs.Typed.{kinds_of}
 use Rattle.hc_core.specs.declared.object.Core.{Core}
-use Rattle.hc_run.specs.Forms.{value_of, residual_of}
+use Rattle.hc_run.specs.Forms.{IsAction, IsRegisterTarget, value_of, residual_of}
 use Rattle.hc_core.specs.declared.expr.Expr.{Expr}
 use Rattle.hc_tree.specs.declared.place.Place.{Place}
 use Rattle.hc_core.specs.declared.stmt.Stmt.{Stmt}
@@ -20,7 +20,6 @@ use Rattle.hc_net.specs.Bits.{number}
 use Rattle.hc_net.specs.Circuit.{Circuit}
 use Rattle.hc_run.specs.Grown.{Computes, Anything, choice_on}
 use Rattle.hc_run.specs.Objects.{store_on, value_on, sums, CanCompute, ComputesValue}
-use Rattle.hc_run.specs.FirstForm.{IsAction, IsRegisterTarget}
 use Rattle.hc_run.specs.Action.{number_at, AreNext, CanAct, Acts}
 use Rattle.hc_run.specs.declared.circuits.value.ObjectNets.{ObjectNets}
 use Rattle.hc_run.proofs.Grown.{AddsGates-none, AddsGates-more, AddsGates-length}

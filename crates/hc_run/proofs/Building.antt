@@ -1,4 +1,4 @@
--- From a first-form core to its chain of actions.
+-- From a core that can be built to its chain of actions.
 use Rattle.std.proofs.Common.{◌≡◌, ◌<◌, ◌≤◌, ℕ, zero, suc, ◌+◌, ◌*◌, List, [], ◌∷◌, ◌++◌, length, map, Bool, Some, refl, sym, ap, ◌∙◌, subst, arith}
 use Rattle.std.specs.Prelude.{All, slice_get, slice_index_or}
 use Rattle.std.specs.List.{flat_map, range_with_len}
@@ -7,26 +7,25 @@ use Rattle.std.proofs.lemmas.List.Elements.{All-nil}
 use Rattle.std.proofs.lemmas.List.FromFn.{length-range_with_len, get_or-range_with_len}
 use Rattle.hc_num.specs.Number.{Number}
 use Rattle.hc_core.specs.Typed.{kinds_of}
-use Rattle.hc_run.specs.Forms.{IsKind, HasForms, IsTyped}
-use Rattle.hc_run.specs.Forms.{residual_of}
+use Rattle.hc_run.specs.Forms.{IsKind, HasForms, residual_of}
 use Rattle.hc_core.specs.declared.object.Core.{Core}
 use Rattle.hc_core.specs.declared.object.Object.{Object}
 use Rattle.hc_core.specs.declared.object.Kind.{Kind}
 use Rattle.hc_core.specs.declared.object.Kind.TheVariants.{Reg}
-use Rattle.hc_tree.specs.declared.place.Place.{Place}
 use Rattle.hc_core.specs.declared.stmt.Stmt.{Stmt}
-use Rattle.hc_core.specs.declared.stmt.Stmt.TheVariants as s
 use Rattle.hc_net.specs.Circuit.{Circuit}
-use Rattle.hc_run.specs.FirstForm.{IsAction, IsFirstForm}
+use Rattle.hc_net.specs.Label.{IsLabel}
+use Rattle.hc_run.specs.Built.{IsBuildable}
+use Rattle.hc_run.specs.Leaves.{AreLeaves}
 use Rattle.hc_run.specs.Machine.{width_of, registers_from, nets_from, MakesRegisters}
 use Rattle.hc_run.specs.Progress.{Progress, CanChain}
 use Rattle.hc_run.specs.declared.circuits.value.ObjectNets.{ObjectNets}
-use Rattle.hc_core.specs.Straight.{actions}
 use Rattle.hc_run.proofs.BuiltForms.{has_forms}
 use Rattle.hc_run.proofs.Implements.{Ready}
 use Rattle.hc_run.proofs.Names.{few_registers}
 use Rattle.hc_run.proofs.Registers.{total, length-registers_from}
-use Rattle.hc_run.proofs.Sequence.{same_parts, typed-parts, actions-parts}
+use Rattle.hc_run.proofs.Rooms.{few}
+use Rattle.hc_run.proofs.Sequence.{typed-leaves}
 
 length-nets_from : (base : ℕ) (kinds : List Kind) → length (nets_from base kinds) ≡ length kinds
 length-nets_from base [] = refl
@@ -58,25 +57,27 @@ widths core sound k width signed init there =
     let kind : IsKind (Reg width signed init) = sound.kinds k (Reg width signed init) there in
     rw (← kind.1) kind.0.most
 
-pub can_chain : (core : Core) (place : Place) (parts : List Stmt) (c0 c1 : Circuit) (nets : List (List ℕ)) → IsFirstForm core → core.main ≡ s.Seq place parts → c0.nodes ≡ []
+-- the clock's name is a label
+pub clock-label : (core : Core) (bytes : List ℕ) → IsBuildable core → bytes ≡ core.clock → length bytes ≤ 255 → IsLabel bytes
+clock-label core bytes can is short = record { short = short; plain = rw is can.sound.clock }
+
+pub can_chain : (core : Core) (parts : List Stmt) (c0 c1 : Circuit) (nets : List (List ℕ)) → IsBuildable core → AreLeaves core.main parts → c0.nodes ≡ []
     → MakesRegisters (kinds_of core.objects) c0 c1 nets → CanChain core c1 nets parts
-can_chain core place parts c0 c1 nets form main none made =
+can_chain core parts c0 c1 nets can leaves none made =
     let kinds : List Kind = kinds_of core.objects in
-    let forms = has_forms core form.sound form.built in
-    let same : form.parts ≡ parts = same_parts form.place place form.parts parts (sym form.main ∙ main) in
+    let forms = has_forms core can in
     let start : length c0.nodes ≡ 0 = ap length none in
     let nodes : c1.nodes ≡ registers_from 0 kinds = ap (λ (c : Circuit). c.nodes) made.adds ∙ ap (λ l. l ++ registers_from 0 kinds) none in
     let nets_are : nets ≡ nets_from 0 kinds = made.nets_are ∙ ap (λ n. nets_from n kinds) start in
     let size : length c1.nodes ≡ total kinds = ap length nodes ∙ length-registers_from 0 kinds in
-    let few = few_registers kinds (widths core forms) in
+    let bits = few_registers kinds (widths core forms) in
     let n : length kinds ≡ length core.objects = length-map core.objects (λ (o : Object). o.kind) in
-    let small : length c1.nodes ≤ 128 * length kinds = rw nodes few in
-    let objects = form.few_objects in
+    let small : length c1.nodes ≤ 128 * length kinds = rw nodes bits in
+    let room = few core parts can leaves in
     record {
       sound = forms;
-      actions = subst (λ (l : List Stmt). All IsAction l) same form.actions;
-      typed = typed-parts kinds place parts (subst (λ (x : Stmt). IsTyped kinds (residual_of x)) main forms.main);
-      few = subst (λ (l : List Stmt). length l ≤ 200) same form.few_parts;
+      actions = leaves.each;
+      typed = typed-leaves kinds core.main parts forms.main leaves;
       all = ap length nets_are ∙ length-nets_from 0 kinds;
       width = λ k width signed init there. ap (λ (l : List (List ℕ)). length (slice_index_or l k [])) nets_are ∙ nets_width 0 kinds k width signed init there;
       below = λ k. subst (λ (l : List (List ℕ)). All (λ net. net < length c1.nodes) (slice_index_or l k [])) (sym nets_are) (nets_below 0 (length c1.nodes) kinds k (omega arith));
@@ -84,20 +85,19 @@ can_chain core place parts c0 c1 nets form main none made =
     }
 
 -- everything is ready to be fed
-pub ready : (core : Core) (place : Place) (parts : List Stmt) (label : List ℕ) (c0 c1 c2 : Circuit) (objects : List (List ℕ)) (at : ObjectNets) (last : ℕ) (next : List (List ℕ)) (ds : List ℕ)
-    → IsFirstForm core → core.main ≡ s.Seq place parts → label ≡ core.clock → c0 ≡ record { clock = label; ports = []; nodes = [] }
+pub ready : (core : Core) (parts : List Stmt) (label : List ℕ) (c0 c1 c2 : Circuit) (objects : List (List ℕ)) (at : ObjectNets) (n last : ℕ) (next : List (List ℕ)) (ds : List ℕ)
+    → IsBuildable core → AreLeaves core.main parts → label ≡ core.clock → c0 ≡ record { clock = label; ports = []; nodes = [] }
     → MakesRegisters (kinds_of core.objects) c0 c1 objects → CanChain core c1 objects parts → at.objects ≡ objects
-    → Progress core at (map residual_of parts) c1 c2 (length parts) last next → ds ≡ flat_map (λ nets. nets) next
+    → n ≡ length parts → Progress core at (map residual_of parts) c1 c2 n last next → ds ≡ flat_map (λ nets. nets) next
     → Ready core parts at c1 c2 last next ds
-ready core place parts label c0 c1 c2 objects at last next ds form main named start made can same progress flat = record {
-  sound = has_forms core form.sound form.built;
-  list = ap (λ (x : Stmt). actions (residual_of x)) main ∙ actions-parts place parts can.actions;
-  few = can.few;
-  room = can.room;
+ready core parts label c0 c1 c2 objects at n last next ds can leaves named start made chains same all progress flat = record {
+  sound = has_forms core can;
+  list = sym leaves.all;
+  room = chains.room;
   clock = ap (λ (c : Circuit). c.clock) made.adds ∙ ap (λ (c : Circuit). c.clock) start ∙ named;
   ports = ap (λ (c : Circuit). c.ports) made.adds ∙ ap (λ (c : Circuit). c.ports) start;
   registers = ap (λ (c : Circuit). c.nodes) made.adds ∙ ap (λ (c : Circuit). c.nodes ++ registers_from 0 (kinds_of core.objects)) start;
   objects = same ∙ made.nets_are ∙ ap (λ (c : Circuit). nets_from (length c.nodes) (kinds_of core.objects)) start;
-  progress = progress;
+  progress = subst (λ m. Progress core at (map residual_of parts) c1 c2 m last next) all progress;
   flat = flat;
 }

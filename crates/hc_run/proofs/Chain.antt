@@ -1,8 +1,10 @@
 -- The chain of tokens, action by action.
 use Rattle.std.proofs.Common.{◌≡◌, ◌≢◌, ◌<◌, ◌≤◌, ℕ, zero, suc, ◌+◌, ◌*◌, ◌^◌, List, [], ◌∷◌, ◌++◌, length, map, get_or, take, true, false, Option, Some, None, refl, sym, ap, ◌∙◌, subst, ⊎_elim, arith, add-one}
+use Rattle.std.specs.Borrow.{Bor}
 use Rattle.std.specs.Prelude.{◌==◌, slice_get, slice_index}
 use Rattle.std.proofs.lemmas.Bool.{ne_eqb}
 use Rattle.std.proofs.lemmas.Bool.Decides.{eqb_tells}
+use Rattle.std.proofs.lemmas.List.{get_or-map}
 use Rattle.std.proofs.lemmas.List.FromFn.{map-range_with_len_more}
 use Rattle.std.proofs.lemmas.Option.{slice_get-get_or, slice_get-map}
 use Rattle.std.specs.Option.{option_map}
@@ -11,11 +13,10 @@ use Rattle.hc_core.specs.Read.{expression, target, statement}
 use Rattle.hc_core.specs.Residual.{Residual, value, residual}
 use Rattle.hc_core.specs.declared.expr.BinOp.TheVariants.{Add}
 use Rattle.hc_core.specs.declared.stmt.Target.TheVariants as t
-use Rattle.hc_run.specs.Forms.{residual_of}
 use Rattle.hc_core.specs.Clock.{words}
 use Rattle.hc_core.specs.Straight.{acted}
 use Rattle.hc_core.specs.Typed.{kinds_of}
-use Rattle.hc_run.specs.Forms.{IsTyped}
+use Rattle.hc_run.specs.Forms.{IsAction, IsSimple, IsTyped, residual_of}
 use Rattle.hc_core.specs.declared.object.Core.{Core}
 use Rattle.hc_core.specs.declared.stmt.Stmt.{Stmt}
 use Rattle.hc_core.specs.declared.stmt.Stmt.TheVariants as s
@@ -23,7 +24,6 @@ use Rattle.hc_net.specs.Run.{Trace}
 use Rattle.hc_net.specs.Circuit.{Circuit, History, Explains}
 use Rattle.hc_net.specs.declared.gate.GateKind.TheVariants.{Zero, One}
 use Rattle.hc_net.specs.declared.net.FlopName.TheVariants.{Token}
-use Rattle.hc_run.specs.FirstForm.{IsSimple, IsAction}
 use Rattle.hc_run.specs.Grown.{MakesGate}
 use Rattle.hc_run.specs.Machine.{MakesToken, tokens}
 use Rattle.hc_run.specs.Objects.{store_on, sums, IsBrief}
@@ -94,12 +94,15 @@ brief_part (s.Assign place (t.Reg k) v) h = simple_brief (expression v) h
 brief_part (s.Delay place) h = tt
 brief_part _ h = absurd h
 
+-- the part that a reference in a list points to
+pub part_at : (parts : List (Bor Stmt)) (n : ℕ) (p : Bor Stmt) → n < length parts → p ≡ get_or parts n p → p.now ≡ get_or (map (λ s. s.now) parts) n p.now
+part_at parts n p inside is = ap (λ (s : Bor Stmt). s.now) is ∙ sym (get_or-map (λ (s : Bor Stmt). s.now) parts n p p.now inside)
+
 -- what it takes to build the next action
 pub can_act : (core : Core) (at : ObjectNets) (actions : List Residual) (objects : List (List ℕ)) (parts : List Stmt) (c0 now : Circuit) (n token : ℕ) (next : List (List ℕ)) (p : Stmt)
     → CanChain core c0 objects parts → Progress core at actions c0 now n token next → n < length parts → p ≡ get_or parts n p → CanAct core at now token next (residual_of p)
 can_act core at actions objects parts c0 now n token next p can pr inside is =
     let l = Adds-length c0 now (1026 * n + 3) _ pr.adds in
-    let few = can.few in
     let room = can.room in
     record {
       sound = can.sound;
@@ -196,7 +199,6 @@ pub token_room : (core : Core) (at : ObjectNets) (actions : List Residual) (obje
 token_room core at actions objects parts c0 now mid n token next next' a can pr inside acts =
     let l0 = Adds-length c0 now (1026 * n + 3) _ pr.adds in
     let l1 = AddsGates-length now mid 1025 acts.grows in
-    let few = can.few in
     let room = can.room in
     let there = pr.token_there in
     (omega arith, omega arith)

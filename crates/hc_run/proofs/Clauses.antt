@@ -11,8 +11,8 @@ use Rattle.hc_run.specs.declared.status.Role.{Role}
 use Rattle.hc_run.specs.declared.status.Role.TheVariants.{Source}
 use Rattle.hc_run.specs.declared.status.Status.{Status}
 use Rattle.hc_run.specs.declared.status.Status.TheVariants.{Done, Refused, Usage, ReadFault, WriteFault, NoMemory, Longer}
-use Rattle.hc_run.specs.Words.{IsBuild, HasNoJob}
-use Rattle.hc_run.specs.Answer.{source_limit, Accepted, First, Compiles, IsWriteFault, IsNoMemory, IsDue, IsCutOff, Prints, MovesCounts, HasFile, LineFails, LoadFails, KeepsFiles}
+use Rattle.hc_run.specs.Words.{IsBuild, IsCheck, Loads, to_build, to_check, HasNoJob}
+use Rattle.hc_run.specs.Answer.{source_limit, Accepted, First, Compiles, HasChecked, IsWriteFault, IsNoMemory, IsDue, IsCutOff, Prints, MovesCounts, HasFile, LineFails, LoadFails, KeepsFiles}
 use Rattle.hc_run.specs.Steps.{Reports, written, stopped_by_fault, stopped_by_memory, Answers, told, fault, no_memory, cut_by_fault, cut_by_memory}
 use Rattle.hc_run.proofs.Jobs.{SameFiles-none}
 
@@ -74,8 +74,20 @@ split (inl (inr b)) = inr (inl b)
 split (inr c) = inr (inr c)
 
 -- the words name one source
-same_source : {words : List (List ℕ)} {f n g m : List ℕ} → IsBuild words f n → IsBuild words g m → g ≡ f
-same_source h k = let a = h.words in let b = k.words in cc
+two_builds : {words : List (List ℕ)} {f n g m : List ℕ} → IsBuild words f n → IsBuild words g m → g ≡ f
+two_builds h k = let a = h.words in let b = k.words in cc
+
+two_checks : {words : List (List ℕ)} {f g : List ℕ} → IsCheck words f → IsCheck words g → g ≡ f
+two_checks h k = let a = h.words in let b = k.words in cc
+
+two_jobs : {words : List (List ℕ)} {f n g : List ℕ} → IsBuild words f n → IsCheck words g → ⊥
+two_jobs h k = let a = h.words in let b = k.words in cc
+
+same_source : (words : List (List ℕ)) (f g : List ℕ) → Loads words f → Loads words g → g ≡ f
+same_source words f g (to_build name h) (to_build other k) = two_builds h k
+same_source words f g (to_build name h) (to_check k) = absurd (two_jobs h k)
+same_source words f g (to_check h) (to_build name k) = absurd (two_jobs k h)
+same_source words f g (to_check h) (to_check k) = two_checks h k
 
 file-missing : (disk : Option Disk) (name bytes : List ℕ) → IsFile disk name bytes → IsMissing disk name → ⊥
 file-missing None name bytes h m = m
@@ -100,88 +112,96 @@ longer-there (Some d) name bytes limit h k = rw h at k
 -- words without a job
 
 usage_due : (words : List (List ℕ)) (old new : StoreState) → HasNoJob words → (due : Status) (line : List ℕ) → IsDue words old new due line → due ≡ Usage
-usage_due words old new none Done line h = absurd (none _ _ h.compiles.job)
-usage_due words old new none (Refused refusal) line h = absurd (none _ _ h.job)
+usage_due words old new none Done line (inl h) = absurd (none _ (to_build _ h.compiles.job))
+usage_due words old new none Done line (inr h) = absurd (none _ (to_check h.job))
+usage_due words old new none (Refused refusal) line h = absurd (none _ h.job)
 usage_due words old new none Usage line h = refl
-usage_due words old new none (ReadFault role) line h = absurd (none _ _ h.job)
-usage_due words old new none (Longer role) line h = absurd (none _ _ h.job)
+usage_due words old new none (ReadFault role) line h = absurd (none _ h.job)
+usage_due words old new none (Longer role) line h = absurd (none _ h.job)
 usage_due words old new none WriteFault line h = absurd h
 usage_due words old new none NoMemory line h = absurd h
 
 pub usage_where : (words : List (List ℕ)) (old new : StoreState) (out out' : SinkState) (result : Status)
     → Answers words old new out out' result → HasNoJob words → (result ≡ Usage) ⊎ LineFails out out' result
 usage_where words old new out out' result h none =
-    where_due words old new out out' result (λ s. s ≡ Usage) (usage_due words old new none) (λ w. none _ _ w.compiles.job) h
+    where_due words old new out out' result (λ s. s ≡ Usage) (usage_due words old new none) (λ w. none _ (to_build _ w.compiles.job)) h
 
 -- a source that isn't there
 
-compiles-missing : (words : List (List ℕ)) (old : StoreState) (file name other : List ℕ) (raw : RawNet) → IsBuild words file name → IsMissing old.disk file → Compiles words old other raw → ⊥
-compiles-missing words old file name other raw job missing h =
-    file-missing old.disk file h.bytes (subst (λ (f : List ℕ). IsFile old.disk f h.bytes) (same_source job h.job) h.source) missing
+source-missing : (words : List (List ℕ)) (old : StoreState) (file other bytes : List ℕ) → Loads words file → IsMissing old.disk file → Loads words other → IsFile old.disk other bytes → ⊥
+source-missing words old file other bytes job missing same source =
+    file-missing old.disk file bytes (subst (λ (f : List ℕ). IsFile old.disk f bytes) (same_source words file other job same) source) missing
 
-missing_due : (words : List (List ℕ)) (old new : StoreState) (file name : List ℕ) → IsBuild words file name → IsMissing old.disk file
+compiles-missing : (words : List (List ℕ)) (old : StoreState) (file other : List ℕ) (raw : RawNet) → Loads words file → IsMissing old.disk file → Compiles words old other raw → ⊥
+compiles-missing words old file other raw job missing h = source-missing words old file h.file h.bytes job missing (to_build other h.job) h.source
+
+missing_due : (words : List (List ℕ)) (old new : StoreState) (file : List ℕ) → Loads words file → IsMissing old.disk file
     → (due : Status) (line : List ℕ) → IsDue words old new due line → due ≡ ReadFault Source
-missing_due words old new file name job missing Done line h = absurd (compiles-missing words old file name h.name h.raw job missing h.compiles)
-missing_due words old new file name job missing (Refused refusal) line h =
-    absurd (file-missing old.disk file h.bytes (subst (λ (f : List ℕ). IsFile old.disk f h.bytes) (same_source job h.job) h.source) missing)
-missing_due words old new file name job missing Usage line h = absurd (h.no_job _ _ job)
-missing_due words old new file name job missing (ReadFault Source) line h = refl
-missing_due words old new file name job missing (Longer role) line h =
-    absurd (longer-missing old.disk file source_limit (subst (λ (f : List ℕ). IsLonger old.disk f source_limit) (same_source job h.job) h.longer) missing)
-missing_due words old new file name job missing WriteFault line h = absurd h
-missing_due words old new file name job missing NoMemory line h = absurd h
+missing_due words old new file job missing Done line (inl h) = absurd (compiles-missing words old file h.name h.raw job missing h.compiles)
+missing_due words old new file job missing Done line (inr h) = absurd (source-missing words old file h.file h.bytes job missing (to_check h.job) h.source)
+missing_due words old new file job missing (Refused refusal) line h = absurd (source-missing words old file h.file h.bytes job missing h.job h.source)
+missing_due words old new file job missing Usage line h = absurd (h.no_job _ job)
+missing_due words old new file job missing (ReadFault Source) line h = refl
+missing_due words old new file job missing (Longer role) line h =
+    absurd (longer-missing old.disk file source_limit (subst (λ (f : List ℕ). IsLonger old.disk f source_limit) (same_source words file h.file job h.job) h.longer) missing)
+missing_due words old new file job missing WriteFault line h = absurd h
+missing_due words old new file job missing NoMemory line h = absurd h
 
 pub missing_where : (words : List (List ℕ)) (old new : StoreState) (out out' : SinkState) (result : Status)
-    → Answers words old new out out' result → (file name : List ℕ) → IsBuild words file name → IsMissing old.disk file
+    → Answers words old new out out' result → (file : List ℕ) → Loads words file → IsMissing old.disk file
     → (result ≡ ReadFault Source) ⊎ LineFails out out' result
-missing_where words old new out out' result h file name job missing =
-    where_due words old new out out' result (λ s. s ≡ ReadFault Source) (missing_due words old new file name job missing)
-    (λ w. compiles-missing words old file name w.name w.raw job missing w.compiles) h
+missing_where words old new out out' result h file job missing =
+    where_due words old new out out' result (λ s. s ≡ ReadFault Source) (missing_due words old new file job missing)
+    (λ w. compiles-missing words old file w.name w.raw job missing w.compiles) h
 
 -- A source that is there, with these bytes.
 
 pub record Given (words : List (List ℕ)) (old : StoreState) (bytes : List ℕ) : Type 0 where
   pub file : List ℕ
-  pub name : List ℕ
-  pub job : IsBuild words file name
+  pub job : Loads words file
   pub there : HasFile old.disk file bytes
 
-given_bytes : (words : List (List ℕ)) (old : StoreState) (bytes file name other : List ℕ) → Given words old bytes → IsBuild words file name → IsFile old.disk file other → other ≡ bytes
-given_bytes words old bytes file name other given job h =
-    same_bytes old.disk given.file bytes other given.there (subst (λ (f : List ℕ). IsFile old.disk f other) (same_source given.job job) h)
+given_bytes : (words : List (List ℕ)) (old : StoreState) (bytes file other : List ℕ) → Given words old bytes → Loads words file → IsFile old.disk file other → other ≡ bytes
+given_bytes words old bytes file other given job h =
+    same_bytes old.disk given.file bytes other given.there (subst (λ (f : List ℕ). IsFile old.disk f other) (same_source words given.file file given.job job) h)
 
-given_longer : (words : List (List ℕ)) (old : StoreState) (bytes file name : List ℕ) → Given words old bytes → IsBuild words file name → IsLonger old.disk file source_limit → source_limit < length bytes
-given_longer words old bytes file name given job h =
-    longer-there old.disk given.file bytes source_limit given.there (subst (λ (f : List ℕ). IsLonger old.disk f source_limit) (same_source given.job job) h)
+given_longer : (words : List (List ℕ)) (old : StoreState) (bytes file : List ℕ) → Given words old bytes → Loads words file → IsLonger old.disk file source_limit → source_limit < length bytes
+given_longer words old bytes file given job h =
+    longer-there old.disk given.file bytes source_limit given.there (subst (λ (f : List ℕ). IsLonger old.disk f source_limit) (same_source words given.file file given.job job) h)
 
-given_fault : (words : List (List ℕ)) (old new : StoreState) (bytes file name : List ℕ) → Given words old bytes → IsBuild words file name
+given_fault : (words : List (List ℕ)) (old new : StoreState) (bytes file : List ℕ) → Given words old bytes → Loads words file
     → HasRisen old.reads new.reads ⊎ IsMissing old.disk file → HasRisen old.reads new.reads
-given_fault words old new bytes file name given job (inl risen) = risen
-given_fault words old new bytes file name given job (inr missing) =
-    absurd (file-there old.disk given.file bytes given.there (subst (IsMissing old.disk) (same_source given.job job) missing))
+given_fault words old new bytes file given job (inl risen) = risen
+given_fault words old new bytes file given job (inr missing) =
+    absurd (file-there old.disk given.file bytes given.there (subst (IsMissing old.disk) (same_source words given.file file given.job job) missing))
 
 given_compiles : (words : List (List ℕ)) (old : StoreState) (bytes name : List ℕ) (raw : RawNet) → Given words old bytes → (h : Compiles words old name raw) → h.bytes ≡ bytes
-given_compiles words old bytes name raw given h = given_bytes words old bytes h.file name h.bytes given h.job h.source
+given_compiles words old bytes name raw given h = given_bytes words old bytes h.file h.bytes given (to_build name h.job) h.source
+
+given_checked : (words : List (List ℕ)) (old new : StoreState) (bytes line : List ℕ) → Given words old bytes → (h : HasChecked words old new line) → h.bytes ≡ bytes
+given_checked words old new bytes line given h = given_bytes words old bytes h.file h.bytes given (to_check h.job) h.source
 
 -- a source over its limit
 
 longer_due : (words : List (List ℕ)) (old new : StoreState) (bytes : List ℕ) → Given words old bytes → source_limit < length bytes
     → (due : Status) (line : List ℕ) → IsDue words old new due line → (due ≡ Longer Source) ⊎ LoadFails old new due
-longer_due words old new bytes given over Done line h =
+longer_due words old new bytes given over Done line (inl h) =
     let e = given_compiles words old bytes h.name h.raw given h.compiles in let w = rw e at h.compiles.within in absurd (omega arith)
+longer_due words old new bytes given over Done line (inr h) =
+    let e = given_checked words old new bytes line given h in let w = rw e at h.within in absurd (omega arith)
 longer_due words old new bytes given over (Refused refusal) line h =
-    let e = given_bytes words old bytes h.file h.name h.bytes given h.job h.source in let w = rw e at h.within in absurd (omega arith)
-longer_due words old new bytes given over Usage line h = absurd (h.no_job _ _ given.job)
-longer_due words old new bytes given over (ReadFault role) line h = inr (given_fault words old new bytes h.file h.name given h.job h.cause)
+    let e = given_bytes words old bytes h.file h.bytes given h.job h.source in let w = rw e at h.within in absurd (omega arith)
+longer_due words old new bytes given over Usage line h = absurd (h.no_job _ given.job)
+longer_due words old new bytes given over (ReadFault role) line h = inr (given_fault words old new bytes h.file given h.job h.cause)
 longer_due words old new bytes given over (Longer Source) line h = inl refl
 longer_due words old new bytes given over WriteFault line h = absurd h
 longer_due words old new bytes given over NoMemory line h = absurd h
 
 pub longer_where : (words : List (List ℕ)) (old new : StoreState) (out out' : SinkState) (result : Status)
-    → Answers words old new out out' result → (file name bytes : List ℕ) → IsBuild words file name → HasFile old.disk file bytes → source_limit < length bytes
+    → Answers words old new out out' result → (file bytes : List ℕ) → Loads words file → HasFile old.disk file bytes → source_limit < length bytes
     → (result ≡ Longer Source) ⊎ LoadFails old new result ⊎ LineFails out out' result
-longer_where words old new out out' result h file name bytes job there over =
-    let given : Given words old bytes = record { file = file; name = name; job = job; there = there } in
+longer_where words old new out out' result h file bytes job there over =
+    let given : Given words old bytes = record { file = file; job = job; there = there } in
     split (where_due words old new out out' result (λ s. (s ≡ Longer Source) ⊎ LoadFails old new s) (longer_due words old new bytes given over)
     (λ w. let e = given_compiles words old bytes w.name w.raw given w.compiles in let v = rw e at w.compiles.within in omega arith) h)
 
@@ -200,21 +220,23 @@ compiles-refused both words old bytes name raw refusal given first h =
 
 refused_due : OneFirst → NeverBoth → (words : List (List ℕ)) (old new : StoreState) (bytes : List ℕ) (refusal : Refusal) → Given words old bytes → length bytes ≤ source_limit → First bytes refusal
     → (due : Status) (line : List ℕ) → IsDue words old new due line → (due ≡ Refused refusal) ⊎ LoadFails old new due
-refused_due one both words old new bytes refusal given within first Done line h = absurd (compiles-refused both words old bytes h.name h.raw refusal given first h.compiles)
+refused_due one both words old new bytes refusal given within first Done line (inl h) = absurd (compiles-refused both words old bytes h.name h.raw refusal given first h.compiles)
+refused_due one both words old new bytes refusal given within first Done line (inr h) =
+    absurd (both bytes h.core refusal (subst (λ (b : List ℕ). Accepted b h.core) (given_checked words old new bytes line given h) h.accepted) first)
 refused_due one both words old new bytes refusal given within first (Refused other) line h =
-    inl (ap Refused (one bytes other refusal (subst (λ (b : List ℕ). First b other) (given_bytes words old bytes h.file h.name h.bytes given h.job h.source) h.first) first))
-refused_due one both words old new bytes refusal given within first Usage line h = absurd (h.no_job _ _ given.job)
-refused_due one both words old new bytes refusal given within first (ReadFault role) line h = inr (given_fault words old new bytes h.file h.name given h.job h.cause)
+    inl (ap Refused (one bytes other refusal (subst (λ (b : List ℕ). First b other) (given_bytes words old bytes h.file h.bytes given h.job h.source) h.first) first))
+refused_due one both words old new bytes refusal given within first Usage line h = absurd (h.no_job _ given.job)
+refused_due one both words old new bytes refusal given within first (ReadFault role) line h = inr (given_fault words old new bytes h.file given h.job h.cause)
 refused_due one both words old new bytes refusal given within first (Longer role) line h =
-    let over = given_longer words old bytes h.file h.name given h.job h.longer in absurd (omega arith)
+    let over = given_longer words old bytes h.file given h.job h.longer in absurd (omega arith)
 refused_due one both words old new bytes refusal given within first WriteFault line h = absurd h
 refused_due one both words old new bytes refusal given within first NoMemory line h = absurd h
 
 pub refused_where : OneFirst → NeverBoth → (words : List (List ℕ)) (old new : StoreState) (out out' : SinkState) (result : Status)
-    → Answers words old new out out' result → (file name bytes : List ℕ) (refusal : Refusal) → IsBuild words file name → HasFile old.disk file bytes → length bytes ≤ source_limit → First bytes refusal
+    → Answers words old new out out' result → (file bytes : List ℕ) (refusal : Refusal) → Loads words file → HasFile old.disk file bytes → length bytes ≤ source_limit → First bytes refusal
     → (result ≡ Refused refusal) ⊎ LoadFails old new result ⊎ LineFails out out' result
-refused_where one both words old new out out' result h file name bytes refusal job there within first =
-    let given : Given words old bytes = record { file = file; name = name; job = job; there = there } in
+refused_where one both words old new out out' result h file bytes refusal job there within first =
+    let given : Given words old bytes = record { file = file; job = job; there = there } in
     split (where_due words old new out out' result (λ s. (s ≡ Refused refusal) ⊎ LoadFails old new s) (refused_due one both words old new bytes refusal given within first)
     (λ w. compiles-refused both words old bytes w.name w.raw refusal given first w.compiles) h)
 
@@ -224,23 +246,23 @@ done_due : NeverBoth → (words : List (List ℕ)) (old new : StoreState) (bytes
     → (HasRisen old.reads new.reads → ⊥) → (due : Status) (line : List ℕ) → IsDue words old new due line → due ≡ Done
 done_due both words old new bytes core given within some no_fault Done line h = refl
 done_due both words old new bytes core given within some no_fault (Refused refusal) line h =
-    absurd (both bytes core refusal some (subst (λ (b : List ℕ). First b refusal) (given_bytes words old bytes h.file h.name h.bytes given h.job h.source) h.first))
-done_due both words old new bytes core given within some no_fault Usage line h = absurd (h.no_job _ _ given.job)
-done_due both words old new bytes core given within some no_fault (ReadFault role) line h = absurd (no_fault (given_fault words old new bytes h.file h.name given h.job h.cause))
+    absurd (both bytes core refusal some (subst (λ (b : List ℕ). First b refusal) (given_bytes words old bytes h.file h.bytes given h.job h.source) h.first))
+done_due both words old new bytes core given within some no_fault Usage line h = absurd (h.no_job _ given.job)
+done_due both words old new bytes core given within some no_fault (ReadFault role) line h = absurd (no_fault (given_fault words old new bytes h.file given h.job h.cause))
 done_due both words old new bytes core given within some no_fault (Longer role) line h =
-    let over = given_longer words old bytes h.file h.name given h.job h.longer in absurd (omega arith)
+    let over = given_longer words old bytes h.file given h.job h.longer in absurd (omega arith)
 done_due both words old new bytes core given within some no_fault WriteFault line h = absurd h
 done_due both words old new bytes core given within some no_fault NoMemory line h = absurd h
 
 pub completeness : NeverBoth → (words : List (List ℕ)) (old new : StoreState) (out out' : SinkState) (result : Status)
-    → Answers words old new out out' result → (file name bytes : List ℕ) (core : Core) → IsBuild words file name → HasFile old.disk file bytes → length bytes ≤ source_limit → Accepted bytes core
+    → Answers words old new out out' result → (file bytes : List ℕ) (core : Core) → Loads words file → HasFile old.disk file bytes → length bytes ≤ source_limit → Accepted bytes core
     → (HasRisen old.reads new.reads → ⊥) → (HasRisen old.writes new.writes → ⊥) → (HasRisen out.faults out'.faults → ⊥) → (result ≡ Done) ⊎ (result ≡ NoMemory)
-completeness both words old new out out' result (told line known wrote) file name bytes core job there within some reads writes faults =
-    inl (done_due both words old new bytes core (record { file = file; name = name; job = job; there = there }) within some reads result line known)
-completeness both words old new out out' result (fault is h same) file name bytes core job there within some reads writes faults = absurd (writes h.cause)
-completeness both words old new out out' result (no_memory is h same) file name bytes core job there within some reads writes faults = inr is
-completeness both words old new out out' result (cut_by_fault is risen cut) file name bytes core job there within some reads writes faults = absurd (faults risen)
-completeness both words old new out out' result (cut_by_memory is cut) file name bytes core job there within some reads writes faults = inr is
+completeness both words old new out out' result (told line known wrote) file bytes core job there within some reads writes faults =
+    inl (done_due both words old new bytes core (record { file = file; job = job; there = there }) within some reads result line known)
+completeness both words old new out out' result (fault is h same) file bytes core job there within some reads writes faults = absurd (writes h.cause)
+completeness both words old new out out' result (no_memory is h same) file bytes core job there within some reads writes faults = inr is
+completeness both words old new out out' result (cut_by_fault is risen cut) file bytes core job there within some reads writes faults = absurd (faults risen)
+completeness both words old new out out' result (cut_by_memory is cut) file bytes core job there within some reads writes faults = inr is
 
 -- The files.
 
@@ -269,7 +291,8 @@ files_due words old new out out' result (cut_by_fault is risen cut) e none = cut
 files_due words old new out out' result (cut_by_memory is cut) e none = absurd (cc)
 
 closed_due : (words : List (List ℕ)) (old new : StoreState) (due : Status) (line : List ℕ) → old.is_open ≡ false → IsDue words old new due line → new.is_open ≡ false
-closed_due words old new Done line shut h = h.saves.is_open
+closed_due words old new Done line shut (inl h) = h.saves.is_open
+closed_due words old new Done line shut (inr h) = h.files.is_open ∙ shut
 closed_due words old new (Refused refusal) line shut h = h.files.is_open ∙ shut
 closed_due words old new Usage line shut h = ap (λ (s : StoreState). s.is_open) h.store ∙ shut
 closed_due words old new (ReadFault role) line shut h = h.files.is_open ∙ shut
@@ -303,10 +326,10 @@ sure_writes words old new out out' result h writes faults moves a b e =
 
 pub sure_reads : (words : List (List ℕ)) (old new : StoreState) (out out' : SinkState) (result : Status)
     → Answers words old new out out' result → IsCount old.sure old.reads → MovesCounts old new
-    → old.sure ≡ true → (role : Role) → result ≡ ReadFault role → (file name : List ℕ) → IsBuild words file name → IsMissing old.disk file
-sure_reads words old new out out' result h reads moves a role e file name job =
+    → old.sure ≡ true → (role : Role) → result ≡ ReadFault role → (file : List ℕ) → Loads words file → IsMissing old.disk file
+sure_reads words old new out out' result h reads moves a role e file job =
     let p = told_of words old new out out' result (ReadFault role) (λ w. cc) (λ w. cc) h e in
     elim p.fits.cause [
       | inl risen ↦ absurd (sure_stands old.sure old.reads new.reads a reads moves.reads risen)
-      | inr missing ↦ subst (IsMissing old.disk) (same_source job p.fits.job) missing
+      | inr missing ↦ subst (IsMissing old.disk) (same_source words file p.fits.file job p.fits.job) missing
     ]

@@ -1,4 +1,4 @@
--- The netlist of a first-form core does what the core does.
+-- The netlist of a core of built forms does what the core does.
 use Rattle.std.proofs.Common.{◌≡◌, ◌<◌, ◌≤◌, ℕ, zero, suc, ◌+◌, ◌*◌, ◌^◌, List, [], ◌∷◌, ◌++◌, length, map, Bool, false, Option, Some, None, sym, ap, ◌∙◌, subst, ⊎_elim, arith}
 use Rattle.std.specs.Prelude.{slice_get, slice_index, slice_index_or, All}
 use Rattle.std.specs.List.{flat_map, range_with_len}
@@ -45,8 +45,7 @@ use Rattle.hc_run.proofs.Stores.{AreRegisters, same_store, registers_on, registe
 pub record Ready (core : Core) (parts : List Stmt) (at : ObjectNets) (c1 c2 : Circuit) (last : ℕ) (next : List (List ℕ)) (ds : List ℕ) : Type 0 where
   pub sound : HasForms core
   pub list : actions (residual_of core.main) ≡ map residual_of parts
-  pub few : length parts ≤ 200
-  pub room : length c1.nodes + 206500 < 2 ^ 32
+  pub room : length c1.nodes + (1026 * length parts + 3) < 2 ^ 32
   pub clock : c1.clock ≡ core.clock
   pub ports : c1.ports ≡ []
   pub registers : c1.nodes ≡ registers_from 0 (kinds_of core.objects)
@@ -78,7 +77,6 @@ module _ (core : Core) (parts : List Stmt) (at : ObjectNets) (c1 c2 : Circuit) (
   pub ready_room : length c2.nodes < 2 ^ 32
   ready_room =
       let l = Adds-length c1 c2 (1026 * length parts + 3) _ r.progress.adds in
-      let few = r.few in
       let room = r.room in
       omega arith
 

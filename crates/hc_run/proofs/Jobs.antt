@@ -7,19 +7,21 @@ use Rattle.std.specs.FinMap.{insert}
 use Rattle.hc_outside.specs.declared.errors.WriteErr.{WriteErr}
 use Rattle.hc_outside.specs.declared.errors.WriteErr.TheVariants as write
 use Rattle.hc_outside.specs.Count.{HasRisen}
-use Rattle.hc_outside.specs.Store.{Files, Disk, StoreState, IsFile, SameFiles, Created, Appended, AppendedFront, Closed, created, appended, closed, MovesReads, MovesWrites}
+use Rattle.hc_outside.specs.Store.{Files, Disk, StoreState, IsFile, IsMissing, IsLonger, SameFiles, Created, Appended, AppendedFront, Closed, created, appended, closed, MovesReads, MovesWrites}
 use Rattle.hc_outside.specs.SinkLemmas.{Moves-none, Moves-more}
 use Rattle.hc_outside.specs.FilesLemmas.{get-insert_same, insert-insert}
+use Rattle.hc_core.specs.Weight.{weight_of, flops_of}
 use Rattle.hc_core.specs.declared.object.Core.{Core}
 use Rattle.hc_net.specs.declared.net.RawNet.{RawNet}
 use Rattle.hc_run.specs.declared.due.Due.{Due}
-use Rattle.hc_run.specs.declared.due.Due.TheVariants.{Built, Refused, Usage, ReadFault, Longer}
+use Rattle.hc_run.specs.declared.due.Due.TheVariants.{Built, Checked, Refused, Usage, ReadFault, Longer}
 use Rattle.hc_net.specs.Valid.{IsValid}
 use Rattle.hc_run.specs.Headline.{Implements}
-use Rattle.hc_run.specs.Lines.{built_line}
-use Rattle.hc_run.specs.Words.{IsBuild}
+use Rattle.hc_run.specs.Lines.{built_line, checked_line}
+use Rattle.hc_run.specs.Words.{IsBuild, IsCheck, Loads, to_build, to_check}
+use Rattle.hc_run.specs.declared.status.Role.TheVariants.{Source}
 use Rattle.hc_run.specs.Answer.{source_limit, Accepted, Compiles, saved, Saved, files_of, HoldsFront, MovesCounts}
-use Rattle.hc_run.specs.Steps.{filled, Filled, FilledFront, Saves, CompilesSource, Performs}
+use Rattle.hc_run.specs.Steps.{filled, Filled, FilledFront, Saves, CompilesSource, ChecksSource, Performs}
 
 -- the file of that name after it was created and filled
 pub files-filled : (name bytes : List ℕ) (d : Disk) → (appended bytes (created name d)).files ≡ insert d.files name bytes
@@ -146,13 +148,14 @@ compiles words file name bytes core raw x job source within accepted implements 
 -- a netlist that was saved after a load, as an end of the job
 saves-loaded : (words : List (List ℕ)) (name : List ℕ) (raw : RawNet) (x y z : StoreState) (result : Result Due WriteErr) → Compiles words x name raw
     → SameFiles x y → MovesReads x y → Saves raw name y z result → Performs words x z result
-saves-loaded words name raw x y z (Ok (Built gates flops)) known files counts h = record {
+saves-loaded words name raw x y z (Ok (Built gates flops)) known files counts h = inl (record {
   name = name;
   raw = raw;
   compiles = known;
   saves = Saved-loaded files h.2;
   says = ap (λ n. built_line n flops) h.0 ∙ ap (built_line (length raw.cells)) h.1;
-}
+})
+saves-loaded words name raw x y z (Ok (Checked objects weight flops)) known files counts h = absurd h
 saves-loaded words name raw x y z (Ok (Refused refusal)) known files counts h = absurd h
 saves-loaded words name raw x y z (Ok Usage) known files counts h = absurd h
 saves-loaded words name raw x y z (Ok (ReadFault role)) known files counts h = absurd h
@@ -184,8 +187,7 @@ Performs-compiled words file name bytes x y z result job source within files cou
 ]
 Performs-compiled words file name bytes x y z result job source within files counts (inr (inl h)) = subst (Performs words x z) (sym h.is) (record {
   file = file;
-  name = name;
-  job = job;
+  job = to_build name job;
   bytes = bytes;
   source = source;
   within = within;
@@ -195,3 +197,48 @@ Performs-compiled words file name bytes x y z result job source within files cou
   says = refl;
 })
 Performs-compiled words file name bytes x y z result job source within files counts (inr (inr h)) = no_memory-loaded words x y z result files h.0 h.1
+
+-- A source that couldn't be loaded, as an end of the job.
+pub Performs-failed : (words : List (List ℕ)) (file : List ℕ) (x y : StoreState) → Loads words file
+    → HasRisen x.reads y.reads ⊎ IsMissing x.disk file → SameFiles x y → MovesReads x y → Performs words x y (Ok (ReadFault Source))
+Performs-failed words file x y job cause files counts = record { file = file; job = job; cause = cause; files = files; counts = counts; says = refl }
+
+-- A source over its limit, as an end of the job.
+pub Performs-longer : (words : List (List ℕ)) (file : List ℕ) (x y : StoreState) → Loads words file
+    → IsLonger x.disk file source_limit → SameFiles x y → MovesReads x y → Performs words x y (Ok (Longer Source))
+Performs-longer words file x y job longer files counts = record { file = file; job = job; longer = longer; files = files; counts = counts; says = refl }
+
+-- A source that was loaded and checked, as an end of the job.
+pub Performs-checked : (words : List (List ℕ)) (file bytes : List ℕ) (x y : StoreState) (result : Result Due WriteErr) → IsCheck words file
+    → IsFile x.disk file bytes → length bytes ≤ source_limit → SameFiles x y → MovesReads x y → ChecksSource bytes result → Performs words x y result
+Performs-checked words file bytes x y (Ok (Built gates flops)) job source within files counts h = absurd h
+Performs-checked words file bytes x y (Ok (Checked objects weight flops)) job source within files counts h = inr (record {
+  file = file;
+  job = job;
+  bytes = bytes;
+  source = source;
+  within = within;
+  core = h.core;
+  accepted = h.accepted;
+  files = files;
+  counts = counts;
+  says = ap (λ n. checked_line n weight flops) h.objects
+      ∙ ap (λ n. checked_line (length h.core.objects) n flops) h.weight
+      ∙ ap (checked_line (length h.core.objects) (weight_of h.core)) h.flops;
+})
+Performs-checked words file bytes x y (Ok (Refused refusal)) job source within files counts h = record {
+  file = file;
+  job = to_check job;
+  bytes = bytes;
+  source = source;
+  within = within;
+  first = h;
+  files = files;
+  counts = counts;
+  says = refl;
+}
+Performs-checked words file bytes x y (Ok Usage) job source within files counts h = absurd h
+Performs-checked words file bytes x y (Ok (ReadFault role)) job source within files counts h = absurd h
+Performs-checked words file bytes x y (Ok (Longer role)) job source within files counts h = absurd h
+Performs-checked words file bytes x y (Err write.WriteFault) job source within files counts h = absurd h
+Performs-checked words file bytes x y (Err write.NoMemory) job source within files counts h = inl files

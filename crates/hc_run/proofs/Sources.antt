@@ -1,7 +1,10 @@
 -- A source has one core or one first refusal, and not both.
-use Rattle.std.proofs.Common.{◌≡◌, ◌⊎◌, inl, inr, ℕ, ◌≤◌, List, Option, Some, None, Result, Ok, Err, IfOk, IfErr, refl, sym, subst, ap, ◌∙◌, arith}
+use Rattle.std.proofs.Common.{◌≡◌, ◌⊎◌, inl, inr, ℕ, ◌≤◌, ◌<◌, List, Option, Some, None, Result, Ok, Err, IfOk, IfErr, refl, sym, subst, ap, ◌∙◌, arith}
+use Rattle.std.proofs.lemmas.Bool.{cases_lt}
+use Rattle.std.specs.List.{All}
+use Rattle.hc_core.specs.Weight.{weight_of}
 use Rattle.hc_core.specs.declared.object.Core.{Core}
-use Rattle.hc_lex.specs.Lexes.{Lexes, Stops, HasTokens, HasBreach}
+use Rattle.hc_lex.specs.Lexes.{Lexes, Stops, HasTokens, HasBreach, IsPlain}
 use Rattle.hc_lex.specs.Place.{start}
 use Rattle.hc_lex.specs.declared.token.Placed.{Placed}
 use Rattle.hc_tree.specs.declared.place.Place.{Place}
@@ -13,10 +16,17 @@ use Rattle.hc_tree.specs.declared.refusal.Refusal.{Refusal}
 use Rattle.hc_tree.specs.declared.refusal.Rule.{Rule}
 use Rattle.hc_tree.specs.declared.item.Tree.{Tree}
 use Rattle.hc_parse.specs.Parsed.{Parses, FirstRefusal, HasTree, HasFirst}
-use Rattle.hc_run.specs.Cursor.{place_at}
-use Rattle.hc_run.specs.FirstForm.{first_form, program}
-use Rattle.hc_run.specs.Answer.{IsSource, Accepted, BreaksTokens, IsNotBuilt, not_built, FirstOfTokens, of_tree, of_form, First, of_bytes, of_tokens, IfRefusal, HasCore, HasRefusal}
-use Rattle.hc_run.proofs.Halting.{has_place, one_place, no_place}
+use Rattle.hc_expand.specs.Expands as expansion
+use Rattle.hc_expand.specs.Spelled.{IsSpelled}
+use Rattle.hc_rules.specs.Weight.{most_weight, too_heavy}
+use Rattle.hc_run.specs.Answer.{IsSource, Accepted, BreaksTokens, FirstOfCore, of_weight, of_form, not_built, FirstOfTokens, of_grammar, of_tree, of_core, First, of_bytes, of_tokens, IfRefusal, HasCore, HasRefusal}
+use Rattle.hc_run.specs.Built.{unbuilt, IsBuildable}
+use Rattle.hc_run.specs.Source.{IsTreeOf, FirstOfTree, of_expansion, of_expanded, IsUnbuilt}
+
+-- ---- the tokens of a source spell its tree as `expand` asks
+
+pub spelled : (ts : List Placed) (tree : Tree) → Parses ts tree → All IsPlain ts → IsSpelled tree
+spelled ts tree parses plain = record { tokens = ts; spells = parses.spells; plain = plain }
 
 -- ---- what is read of the tokens is so of the bytes
 
@@ -29,16 +39,39 @@ refused bytes h (Ok core) f = tt
 refused bytes h (Err (Refused refusal)) f = of_tokens (record { lexed = h; breaks = f })
 refused bytes h (Err NoMemory) f = tt
 
--- what the first-form reader answers, of tokens that have a tree
-pub is_source : (ts : List Placed) → HasTree ts → (result : Result Core FrontErr) → IfOk result (λ core. first_form ts ≡ Some core) → IfOk result (IsSource ts)
-is_source ts tree (Ok core) e = record { has_tree = tree; form = e }
-is_source ts tree (Err e) f = tt
+-- ---- what is read of the tree is so of the tokens
 
-pub breaks_form : (ts : List Placed) (end : Place) → HasTree ts → (result : Result Core FrontErr) → IfErr result (λ e. IfRefusal e (IsNotBuilt ts end))
+pub source : (ts : List Placed) (tree : Tree) → Parses ts tree → (result : Result Core FrontErr) → IfOk result (IsTreeOf tree) → IfOk result (IsSource ts)
+source ts tree parses (Ok core) e = record { has_tree = record { tree = tree; parses = parses }; expands = e.expands; light = e.light; built = e.built }
+source ts tree parses (Err e) f = tt
+
+broken_tree : (ts : List Placed) (end : Place) (tree : Tree) → Parses ts tree → (refusal : Refusal) → FirstOfTree tree refusal → FirstOfTokens ts end refusal
+broken_tree ts end tree parses refusal (of_expansion stops) = of_tree (record { has_tree = record { tree = tree; parses = parses }; stops = stops })
+broken_tree ts end tree parses refusal (of_expanded core expands breaks) =
+    of_core (record { has_tree = record { tree = tree; parses = parses }; core = core; expands = expands; breaks = breaks })
+
+pub broken : (ts : List Placed) (end : Place) (tree : Tree) → Parses ts tree → (result : Result Core FrontErr) → IfErr result (λ e. IfRefusal e (FirstOfTree tree))
     → IfErr result (λ e. IfRefusal e (FirstOfTokens ts end))
-breaks_form ts end tree (Ok core) f = tt
-breaks_form ts end tree (Err (Refused refusal)) f = of_form (record { has_tree = tree; breaks = f })
-breaks_form ts end tree (Err NoMemory) f = tt
+broken ts end tree parses (Ok core) f = tt
+broken ts end tree parses (Err (Refused refusal)) f = broken_tree ts end tree parses refusal f
+broken ts end tree parses (Err NoMemory) f = tt
+
+-- ---- what is read of the core is so of the tree
+
+pub tree_of : (tree : Tree) (core : Core) → expansion.Expands tree core → (result : Result Core FrontErr) → IfOk result (λ found. found ≡ core) → IfOk result IsBuildable → IfOk result (IsTreeOf tree)
+tree_of tree core expands (Ok found) same buildable = record { expands = subst (λ (c : Core). expansion.Expands tree c) (sym same) expands; light = buildable.light; built = buildable.built }
+tree_of tree core expands (Err e) same buildable = tt
+
+pub broken_core : (tree : Tree) (core : Core) → expansion.Expands tree core → (result : Result Core FrontErr) → IfErr result (λ e. IfRefusal e (FirstOfCore core))
+    → IfErr result (λ e. IfRefusal e (FirstOfTree tree))
+broken_core tree core expands (Ok found) f = tt
+broken_core tree core expands (Err (Refused refusal)) f = of_expanded core expands f
+broken_core tree core expands (Err NoMemory) f = tt
+
+-- what of its form comes behind its weight
+pub broken_form : {A : Type 0} (core : Core) → weight_of core ≤ most_weight → (result : Result A Refusal) → IfErr result (IsUnbuilt core) → IfErr result (FirstOfCore core)
+broken_form core light (Ok found) f = tt
+broken_form core light (Err refusal) f = of_form light f.place f.first f.is
 
 -- ---- the laws, from those of the tokens
 
@@ -54,14 +87,58 @@ NotBoth = (before : ℕ) (at : Place) (bytes : List ℕ) → HasTokens before at
 abbrev pub OneOf : Type 0
 OneOf = (before : ℕ) (at : Place) (bytes : List ℕ) → before ≤ 1000000 → HasTokens before at bytes ⊎ HasBreach before at bytes
 
+-- ---- those of the trees
+
+abbrev pub OneTree : Type 0
+OneTree = (ts : List Placed) (tree other : Tree) → Parses ts tree → Parses ts other → tree ≡ other
+
+abbrev pub OneRefusal : Type 0
+OneRefusal = (ts : List Placed) (end : Place) (refusal other : Refusal) → FirstRefusal ts end refusal → FirstRefusal ts end other → refusal ≡ other
+
+abbrev pub NoRefusal : Type 0
+NoRefusal = (ts : List Placed) (end : Place) (tree : Tree) (refusal : Refusal) → Parses ts tree → FirstRefusal ts end refusal → ⊥
+
+abbrev pub TreeOrRefusal : Type 0
+TreeOrRefusal = (ts : List Placed) (end : Place) → HasTree ts ⊎ HasFirst ts end
+
+-- ---- and those of the cores
+
+abbrev pub OneCore : Type 0
+OneCore = (tree : Tree) (core other : Core) → expansion.Expands tree core → expansion.Expands tree other → core ≡ other
+
+abbrev pub OneStop : Type 0
+OneStop = (tree : Tree) (refusal other : Refusal) → expansion.Stops tree refusal → expansion.Stops tree other → refusal ≡ other
+
+abbrev pub NoStop : Type 0
+NoStop = (tree : Tree) (core : Core) (refusal : Refusal) → expansion.Expands tree core → expansion.Stops tree refusal → ⊥
+
+abbrev pub CoreOrStop : Type 0
+CoreOrStop = (tree : Tree) → ((core : Core) × expansion.Expands tree core) ⊎ ((refusal : Refusal) × expansion.Stops tree refusal)
+
+-- ---- one core
+
 same_tokens : OneReading → {bytes : List ℕ} (h k : HasTokens 0 start bytes) → (h.tokens ≡ k.tokens) × (h.end ≡ k.end)
 same_tokens reading {bytes} h k = reading start bytes h.tokens k.tokens h.end k.end h.reads k.reads
 
-same_some : {A : Type 0} {o : Option A} {a b : A} → o ≡ Some a → o ≡ Some b → a ≡ b
-same_some p q = cc
+-- two trees of the same tokens are one
+same_tree : OneTree → (ts : List Placed) (h k : HasTree ts) → h.tree ≡ k.tree
+same_tree one ts h k = one ts h.tree k.tree h.parses k.parses
 
-pub one_core : OneReading → (bytes : List ℕ) (core other : Core) → Accepted bytes core → Accepted bytes other → core ≡ other
-one_core reading bytes core other h k = same_some h.source.form (ap first_form (same_tokens reading h.lexed k.lexed).0 ∙ k.source.form)
+-- what a tree expands to, and what it is refused for, is so of an equal tree
+moved_core : (tree other : Tree) (core : Core) → tree ≡ other → expansion.Expands tree core → expansion.Expands other core
+moved_core tree other core e h = subst (λ (t : Tree). expansion.Expands t core) e h
+
+moved_stop : (tree other : Tree) (refusal : Refusal) → tree ≡ other → expansion.Stops tree refusal → expansion.Stops other refusal
+moved_stop tree other refusal e h = subst (λ (t : Tree). expansion.Stops t refusal) e h
+
+one_source : OneTree → OneCore → (ts : List Placed) (core other : Core) → IsSource ts core → IsSource ts other → core ≡ other
+one_source trees one ts core other h k = one k.has_tree.tree core other (moved_core _ _ _ (same_tree trees ts h.has_tree k.has_tree) h.expands) k.expands
+
+pub one_core : OneReading → OneTree → OneCore → (bytes : List ℕ) (core other : Core) → Accepted bytes core → Accepted bytes other → core ≡ other
+one_core reading trees one bytes core other h k =
+    one_source trees one k.lexed.tokens core other (subst (λ (ts : List Placed). IsSource ts core) (same_tokens reading h.lexed k.lexed).0 h.source) k.source
+
+-- ---- never both
 
 breach : {bytes : List ℕ} {refusal : Refusal} → BreaksTokens bytes refusal → HasBreach 0 start bytes
 breach {refusal = refusal} h = record { rule = refusal.rule; place = refusal.place; stops = h.stops }
@@ -70,22 +147,28 @@ breach {refusal = refusal} h = record { rule = refusal.rule; place = refusal.pla
 moved : (ts us : List Placed) (end other : Place) (refusal : Refusal) → ts ≡ us → end ≡ other → FirstOfTokens ts end refusal → FirstOfTokens us other refusal
 moved ts us end other refusal e f h = subst (λ a. FirstOfTokens us a refusal) f (subst (λ (z : List Placed). FirstOfTokens z end refusal) e h)
 
--- the laws of the trees
-abbrev pub OneRefusal : Type 0
-OneRefusal = (ts : List Placed) (end : Place) (refusal other : Refusal) → FirstRefusal ts end refusal → FirstRefusal ts end other → refusal ≡ other
+no_form : {o : Option Place} {place : Place} → o ≡ None → o ≡ Some place → ⊥
+no_form p q = cc
 
-abbrev pub NoRefusal : Type 0
-NoRefusal = (ts : List Placed) (end : Place) (tree : Tree) (refusal : Refusal) → Parses ts tree → FirstRefusal ts end refusal → ⊥
+sound_core : (core : Core) (refusal : Refusal) → weight_of core ≤ most_weight → unbuilt core ≡ None → FirstOfCore core refusal → ⊥
+sound_core core refusal light built (of_weight heavy is) = omega arith
+sound_core core refusal light built (of_form within place first is) = no_form built first
 
-source_or_refusal : NoRefusal → (ts : List Placed) (end : Place) (core : Core) (refusal : Refusal) → IsSource ts core → FirstOfTokens ts end refusal → ⊥
-source_or_refusal none ts end core refusal h (of_tree k) = none ts end h.has_tree.tree refusal h.has_tree.parses k
-source_or_refusal none ts end core refusal h (of_form k) = no_place ts end k.breaks.place core h.form k.breaks.halts
+source_or_refusal : OneTree → NoRefusal → OneCore → NoStop → (ts : List Placed) (end : Place) (core : Core) (refusal : Refusal) → IsSource ts core → FirstOfTokens ts end refusal → ⊥
+source_or_refusal trees none one no_stop ts end core refusal h (of_grammar k) = none ts end h.has_tree.tree refusal h.has_tree.parses k
+source_or_refusal trees none one no_stop ts end core refusal h (of_tree k) =
+    no_stop k.has_tree.tree core refusal (moved_core _ _ _ (same_tree trees ts h.has_tree k.has_tree) h.expands) k.stops
+source_or_refusal trees none one no_stop ts end core refusal h (of_core k) =
+    let same : k.core ≡ core = one k.has_tree.tree k.core core k.expands (moved_core _ _ _ (same_tree trees ts h.has_tree k.has_tree) h.expands) in
+    sound_core core refusal h.light h.built (subst (λ (c : Core). FirstOfCore c refusal) same k.breaks)
 
-pub never_both : OneReading → NotBoth → NoRefusal → (bytes : List ℕ) (core : Core) (refusal : Refusal) → Accepted bytes core → First bytes refusal → ⊥
-never_both reading both none bytes core refusal h (of_bytes k) = both 0 start bytes h.lexed (breach k)
-never_both reading both none bytes core refusal h (of_tokens k) =
+pub never_both : OneReading → NotBoth → OneTree → NoRefusal → OneCore → NoStop → (bytes : List ℕ) (core : Core) (refusal : Refusal) → Accepted bytes core → First bytes refusal → ⊥
+never_both reading both trees none one no_stop bytes core refusal h (of_bytes k) = both 0 start bytes h.lexed (breach k)
+never_both reading both trees none one no_stop bytes core refusal h (of_tokens k) =
     let same = same_tokens reading k.lexed h.lexed in
-    source_or_refusal none h.lexed.tokens h.lexed.end core refusal h.source (moved k.lexed.tokens h.lexed.tokens k.lexed.end h.lexed.end refusal same.0 same.1 k.breaks)
+    source_or_refusal trees none one no_stop h.lexed.tokens h.lexed.end core refusal h.source (moved k.lexed.tokens h.lexed.tokens k.lexed.end h.lexed.end refusal same.0 same.1 k.breaks)
+
+-- ---- one first refusal
 
 abbrev refusal_of : Rule → Place → Detail → Refusal
 refusal_of rule place detail = record { rule = rule; place = place; detail = detail }
@@ -93,40 +176,68 @@ refusal_of rule place detail = record { rule = rule; place = place; detail = det
 same_refusal : {r s : Refusal} → r.rule ≡ s.rule → r.place ≡ s.place → r.detail ≡ s.detail → r ≡ s
 same_refusal {r} {s} a b c = ap (λ rule. refusal_of rule r.place r.detail) a ∙ ap (λ place. refusal_of s.rule place r.detail) b ∙ ap (refusal_of s.rule s.place) c
 
-one_of_tokens : OneRefusal → NoRefusal → (ts : List Placed) (end : Place) (refusal other : Refusal) → FirstOfTokens ts end refusal → FirstOfTokens ts end other → refusal ≡ other
-one_of_tokens one none ts end refusal other (of_tree h) (of_tree k) = one ts end refusal other h k
-one_of_tokens one none ts end refusal other (of_tree h) (of_form k) = absurd (none ts end k.has_tree.tree refusal k.has_tree.parses h)
-one_of_tokens one none ts end refusal other (of_form h) (of_tree k) = absurd (none ts end h.has_tree.tree other h.has_tree.parses k)
-one_of_tokens one none ts end refusal other (of_form h) (of_form k) =
-    h.breaks.is ∙ ap not_built (one_place ts end h.breaks.place k.breaks.place h.breaks.halts k.breaks.halts) ∙ sym k.breaks.is
+same_form : {o : Option Place} {a b : Place} → o ≡ Some a → o ≡ Some b → a ≡ b
+same_form p q = cc
 
-pub one_first : OneReading → OneBreach → NotBoth → OneRefusal → NoRefusal → (bytes : List ℕ) (refusal other : Refusal) → First bytes refusal → First bytes other → refusal ≡ other
-one_first reading breaks both one none bytes refusal other (of_bytes h) (of_bytes k) =
-    let same = breaks 0 start bytes refusal.rule other.rule refusal.place other.place h.stops k.stops in
-    same_refusal same.0 same.1 (h.detail ∙ sym k.detail)
-one_first reading breaks both one none bytes refusal other (of_bytes h) (of_tokens k) = absurd (both 0 start bytes k.lexed (breach h))
-one_first reading breaks both one none bytes refusal other (of_tokens h) (of_bytes k) = absurd (both 0 start bytes h.lexed (breach k))
-one_first reading breaks both one none bytes refusal other (of_tokens h) (of_tokens k) =
-    let same = same_tokens reading h.lexed k.lexed in
-    one_of_tokens one none k.lexed.tokens k.lexed.end refusal other (moved h.lexed.tokens k.lexed.tokens h.lexed.end k.lexed.end refusal same.0 same.1 h.breaks) k.breaks
+one_of_core : (core : Core) (refusal other : Refusal) → FirstOfCore core refusal → FirstOfCore core other → refusal ≡ other
+one_of_core core refusal other (of_weight heavy is) (of_weight more same) = is ∙ sym same
+one_of_core core refusal other (of_weight heavy is) (of_form light place first same) = absurd (omega arith)
+one_of_core core refusal other (of_form light place first is) (of_weight heavy same) = absurd (omega arith)
+one_of_core core refusal other (of_form light place first is) (of_form within behind second same) = is ∙ ap not_built (same_form first second) ∙ sym same
 
--- tokens have a tree or break a rule
-abbrev pub TreeOrRefusal : Type 0
-TreeOrRefusal = (ts : List Placed) (end : Place) → HasTree ts ⊎ HasFirst ts end
+module _ (trees : OneTree) (one : OneRefusal) (none : NoRefusal) (cores : OneCore) (stops : OneStop) (no_stop : NoStop) where
+  one_of_tokens : (ts : List Placed) (end : Place) (refusal other : Refusal) → FirstOfTokens ts end refusal → FirstOfTokens ts end other → refusal ≡ other
+  one_of_tokens ts end refusal other (of_grammar h) (of_grammar k) = one ts end refusal other h k
+  one_of_tokens ts end refusal other (of_grammar h) (of_tree k) = absurd (none ts end k.has_tree.tree refusal k.has_tree.parses h)
+  one_of_tokens ts end refusal other (of_grammar h) (of_core k) = absurd (none ts end k.has_tree.tree refusal k.has_tree.parses h)
+  one_of_tokens ts end refusal other (of_tree h) (of_grammar k) = absurd (none ts end h.has_tree.tree other h.has_tree.parses k)
+  one_of_tokens ts end refusal other (of_tree h) (of_tree k) = stops k.has_tree.tree refusal other (moved_stop _ _ _ (same_tree trees ts h.has_tree k.has_tree) h.stops) k.stops
+  one_of_tokens ts end refusal other (of_tree h) (of_core k) =
+      absurd (no_stop k.has_tree.tree k.core refusal k.expands (moved_stop _ _ _ (same_tree trees ts h.has_tree k.has_tree) h.stops))
+  one_of_tokens ts end refusal other (of_core h) (of_grammar k) = absurd (none ts end h.has_tree.tree other h.has_tree.parses k)
+  one_of_tokens ts end refusal other (of_core h) (of_tree k) =
+      absurd (no_stop k.has_tree.tree h.core other (moved_core _ _ _ (same_tree trees ts h.has_tree k.has_tree) h.expands) k.stops)
+  one_of_tokens ts end refusal other (of_core h) (of_core k) =
+      let same : h.core ≡ k.core = cores k.has_tree.tree h.core k.core (moved_core _ _ _ (same_tree trees ts h.has_tree k.has_tree) h.expands) k.expands in
+      one_of_core k.core refusal other (subst (λ (c : Core). FirstOfCore c refusal) same h.breaks) k.breaks
 
-of_form_or_core : (bytes : List ℕ) (h : HasTokens 0 start bytes) → HasTree h.tokens → (o : Option Core) → first_form h.tokens ≡ o → HasCore bytes ⊎ HasRefusal bytes
-of_form_or_core bytes h tree (Some core) e = inl (record { core = core; accepted = record { lexed = h; source = record { has_tree = tree; form = e } } })
-of_form_or_core bytes h tree None e =
-    let place = place_at h.end (program h.tokens).1 in
-    inr (record { refusal = not_built place; first = of_tokens (record { lexed = h; breaks = of_form (record { has_tree = tree; breaks = record { place = place; halts = has_place h.tokens h.end e; is = refl } }) }) })
+  pub one_first : OneReading → OneBreach → NotBoth → (bytes : List ℕ) (refusal other : Refusal) → First bytes refusal → First bytes other → refusal ≡ other
+  one_first reading breaks both bytes refusal other (of_bytes h) (of_bytes k) =
+      let same = breaks 0 start bytes refusal.rule other.rule refusal.place other.place h.stops k.stops in
+      same_refusal same.0 same.1 (h.detail ∙ sym k.detail)
+  one_first reading breaks both bytes refusal other (of_bytes h) (of_tokens k) = absurd (both 0 start bytes k.lexed (breach h))
+  one_first reading breaks both bytes refusal other (of_tokens h) (of_bytes k) = absurd (both 0 start bytes h.lexed (breach k))
+  one_first reading breaks both bytes refusal other (of_tokens h) (of_tokens k) =
+      let same = same_tokens reading h.lexed k.lexed in
+      one_of_tokens k.lexed.tokens k.lexed.end refusal other (moved h.lexed.tokens k.lexed.tokens h.lexed.end k.lexed.end refusal same.0 same.1 h.breaks) k.breaks
 
-of_tree_or_refusal : (bytes : List ℕ) (h : HasTokens 0 start bytes) → HasTree h.tokens ⊎ HasFirst h.tokens h.end → HasCore bytes ⊎ HasRefusal bytes
-of_tree_or_refusal bytes h (inl tree) = of_form_or_core bytes h tree (first_form h.tokens) refl
-of_tree_or_refusal bytes h (inr f) = inr (record { refusal = f.refusal; first = of_tokens (record { lexed = h; breaks = of_tree f.first }) })
+-- ---- a core or a refusal
 
-either_by : TreeOrRefusal → (bytes : List ℕ) → HasTokens 0 start bytes ⊎ HasBreach 0 start bytes → HasCore bytes ⊎ HasRefusal bytes
-either_by trees bytes (inl h) = of_tree_or_refusal bytes h (trees h.tokens h.end)
-either_by trees bytes (inr h) = inr (record { refusal = refusal_of h.rule h.place Nothing; first = of_bytes (record { stops = h.stops; detail = refl }) })
+of_built : (bytes : List ℕ) (h : HasTokens 0 start bytes) (t : HasTree h.tokens) (core : Core) → expansion.Expands t.tree core → weight_of core ≤ most_weight → (o : Option Place) → unbuilt core ≡ o
+    → HasCore bytes ⊎ HasRefusal bytes
+of_built bytes h t core expands light None e =
+    inl (record { core = core; accepted = record { lexed = h; source = record { has_tree = t; expands = expands; light = light; built = e } } })
+of_built bytes h t core expands light (Some place) e =
+    inr (record { refusal = not_built place; first = of_tokens (record { lexed = h; breaks = of_core (record { has_tree = t; core = core; expands = expands; breaks = of_form light place e refl }) }) })
 
-pub core_or_refusal : OneOf → TreeOrRefusal → (bytes : List ℕ) → HasCore bytes ⊎ HasRefusal bytes
-core_or_refusal lexes trees bytes = either_by trees bytes (lexes 0 start bytes (omega arith))
+of_weighed : (bytes : List ℕ) (h : HasTokens 0 start bytes) (t : HasTree h.tokens) (core : Core) → expansion.Expands t.tree core → (most_weight < weight_of core) ⊎ (weight_of core ≤ most_weight)
+    → HasCore bytes ⊎ HasRefusal bytes
+of_weighed bytes h t core expands (inr light) = of_built bytes h t core expands light (unbuilt core) refl
+of_weighed bytes h t core expands (inl heavy) =
+    inr (record { refusal = too_heavy; first = of_tokens (record { lexed = h; breaks = of_core (record { has_tree = t; core = core; expands = expands; breaks = of_weight heavy refl }) }) })
+
+of_expansion_or : (bytes : List ℕ) (h : HasTokens 0 start bytes) (t : HasTree h.tokens) → ((core : Core) × expansion.Expands t.tree core) ⊎ ((refusal : Refusal) × expansion.Stops t.tree refusal)
+    → HasCore bytes ⊎ HasRefusal bytes
+of_expansion_or bytes h t (inl k) = of_weighed bytes h t k.0 k.1 (cases_lt most_weight (weight_of k.0))
+of_expansion_or bytes h t (inr k) = inr (record { refusal = k.0; first = of_tokens (record { lexed = h; breaks = of_tree (record { has_tree = t; stops = k.1 }) }) })
+
+of_tree_or_refusal : CoreOrStop → (bytes : List ℕ) (h : HasTokens 0 start bytes) → HasTree h.tokens ⊎ HasFirst h.tokens h.end → HasCore bytes ⊎ HasRefusal bytes
+of_tree_or_refusal cores bytes h (inl t) = of_expansion_or bytes h t (cores t.tree)
+of_tree_or_refusal cores bytes h (inr f) = inr (record { refusal = f.refusal; first = of_tokens (record { lexed = h; breaks = of_grammar f.first }) })
+
+either_by : TreeOrRefusal → CoreOrStop → (bytes : List ℕ) → HasTokens 0 start bytes ⊎ HasBreach 0 start bytes → HasCore bytes ⊎ HasRefusal bytes
+either_by trees cores bytes (inl h) = of_tree_or_refusal cores bytes h (trees h.tokens h.end)
+either_by trees cores bytes (inr h) = inr (record { refusal = refusal_of h.rule h.place Nothing; first = of_bytes (record { stops = h.stops; detail = refl }) })
+
+pub core_or_refusal : OneOf → TreeOrRefusal → CoreOrStop → (bytes : List ℕ) → HasCore bytes ⊎ HasRefusal bytes
+core_or_refusal lexes trees cores bytes = either_by trees cores bytes (lexes 0 start bytes (omega arith))

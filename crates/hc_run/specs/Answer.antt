@@ -1,6 +1,6 @@
 -- What each answer of the top call says: of the words, of the source, of the files afterwards and of the line that is
 -- written. The answers and their causes are this project's own.
-use Rattle.std.specs.Prelude.{◌≡◌, ◌⊎◌, ◌≤◌, ◌++◌, ℕ, false, List, length, Option, Some, None, is_some}
+use Rattle.std.specs.Prelude.{◌≡◌, ◌⊎◌, ◌<◌, ◌≤◌, ◌++◌, ℕ, false, List, length, Option, Some, None, is_some}
 use Rattle.std.specs.Option.{option_map}
 use Rattle.std.specs.FinMap.{get, insert}
 use Rattle.hc_outside.specs.Count.{HasRisen, Moves}
@@ -16,28 +16,32 @@ use Rattle.hc_tree.specs.declared.refusal.FrontErr.TheVariants as front
 use Rattle.hc_tree.specs.declared.refusal.Rule.TheVariants.{NotBuilt}
 use Rattle.hc_tree.specs.declared.refusal.Detail.TheVariants.{Nothing}
 use Rattle.hc_tree.specs.declared.refusal.Refusal.{Refusal}
+use Rattle.hc_core.specs.Weight.{weight_of, flops_of}
 use Rattle.hc_core.specs.declared.object.Core.{Core}
+use Rattle.hc_expand.specs.Expands as tree
+use Rattle.hc_rules.specs.Weight.{most_weight, too_heavy}
 use Rattle.hc_net.specs.declared.net.RawNet.{RawNet}
 use Rattle.hc_net.specs.Valid.{IsValid}
 use Rattle.hc_run.specs.declared.status.Role.{Role}
 use Rattle.hc_run.specs.declared.status.Status.{Status}
 use Rattle.hc_run.specs.declared.status.Status.TheVariants.{Done, Refused, Usage, ReadFault, WriteFault, NoMemory, Longer}
-use Rattle.hc_run.specs.FirstForm.{first_form}
-use Rattle.hc_run.specs.Halts.{Halts}
+use Rattle.hc_run.specs.Built.{unbuilt}
 use Rattle.hc_run.specs.Edif.{edif}
 use Rattle.hc_run.specs.Headline.{Implements}
-use Rattle.hc_run.specs.Words.{IsBuild, HasNoJob}
+use Rattle.hc_run.specs.Words.{IsBuild, IsCheck, Loads, HasNoJob}
 use Rattle.hc_run.specs.Refused.{refusal_line}
-use Rattle.hc_run.specs.Lines.{built_line, usage_line, read_fault_line, longer_line}
+use Rattle.hc_run.specs.Lines.{built_line, checked_line, usage_line, read_fault_line, longer_line}
 
 -- how many bytes a source may have: 4 MiB
 abbrev pub source_limit : ℕ
 source_limit = 4194304
 
--- Tokens that have a tree are the first-form list of this core.
+-- The tokens have a tree that expands to this core, which is within the limit of the weight and of built forms alone.
 pub record IsSource (tokens : List Placed) (core : Core) : Type 0 where
   pub has_tree : HasTree tokens
-  pub form : first_form tokens ≡ Some core
+  pub expands : tree.Expands has_tree.tree core
+  pub light : weight_of core ≤ most_weight
+  pub built : unbuilt core ≡ None
 
 -- The bytes are a source of this core: they have tokens within the limits, and these are the core's.
 pub record Accepted (bytes : List ℕ) (core : Core) : Type 0 where
@@ -53,22 +57,29 @@ pub record BreaksTokens (bytes : List ℕ) (refusal : Refusal) : Type 0 where
 abbrev pub not_built : Place → Refusal
 not_built place = record { rule = NotBuilt; place = place; detail = Nothing }
 
--- Tokens are no first-form list: the refusal names the place of the first token with which they can't be one any more.
-pub record IsNotBuilt (tokens : List Placed) (end : Place) (refusal : Refusal) : Type 0 where
-  pub place : Place
-  pub halts : Halts tokens end place
-  pub is : refusal ≡ not_built place
+-- A core breaks a rule, and this refusal comes first: the limit of the weight, then the first form that isn't built.
+pub data FirstOfCore (core : Core) (refusal : Refusal) : Type 0 where
+  of_weight : most_weight < weight_of core → refusal ≡ too_heavy → FirstOfCore core refusal
+  of_form : weight_of core ≤ most_weight → (place : Place) → unbuilt core ≡ Some place → refusal ≡ not_built place → FirstOfCore core refusal
 
--- The tokens have a tree, and they are no first-form list.
-pub record BreaksForm (tokens : List Placed) (end : Place) (refusal : Refusal) : Type 0 where
+-- The tokens have a tree, which breaks a rule or limit before it has a core; this refusal is the first.
+pub record BreaksTree (tokens : List Placed) (refusal : Refusal) : Type 0 where
   pub has_tree : HasTree tokens
-  pub breaks : IsNotBuilt tokens end refusal
+  pub stops : tree.Stops has_tree.tree refusal
+
+-- The tokens have a tree that expands to a core, which breaks a rule; this refusal is the first.
+pub record BreaksCore (tokens : List Placed) (refusal : Refusal) : Type 0 where
+  pub has_tree : HasTree tokens
+  pub core : Core
+  pub expands : tree.Expands has_tree.tree core
+  pub breaks : FirstOfCore core refusal
 
 -- Tokens break a rule, and this refusal comes first: what they break where they have no tree (a word that is left out, then
--- the nesting, then the grammar), then what isn't built.
+-- the nesting, then the grammar), then what their tree breaks where it has no core, then what its core breaks.
 pub data FirstOfTokens (tokens : List Placed) (end : Place) (refusal : Refusal) : Type 0 where
-  of_tree : FirstRefusal tokens end refusal → FirstOfTokens tokens end refusal
-  of_form : BreaksForm tokens end refusal → FirstOfTokens tokens end refusal
+  of_grammar : FirstRefusal tokens end refusal → FirstOfTokens tokens end refusal
+  of_tree : BreaksTree tokens refusal → FirstOfTokens tokens end refusal
+  of_core : BreaksCore tokens refusal → FirstOfTokens tokens end refusal
 
 -- The bytes have tokens within the limits, and this refusal is the first of these.
 pub record BreaksSource (bytes : List ℕ) (refusal : Refusal) : Type 0 where
@@ -127,19 +138,36 @@ pub record HoldsFront (name bytes : List ℕ) (old new : StoreState) : Type 0 wh
   pub parts : front ++ back ≡ bytes
   pub files : files_of new.disk ≡ option_map (λ files. insert files name front) (files_of old.disk)
 
--- Done: the netlist's text is saved under the name that the words give, and the line has the netlist's counts.
-pub record IsDone (words : List (List ℕ)) (old new : StoreState) (line : List ℕ) : Type 0 where
+-- Done of `build`: the netlist's text is saved under the name that the words give, and the line has the netlist's counts.
+pub record HasBuilt (words : List (List ℕ)) (old new : StoreState) (line : List ℕ) : Type 0 where
   pub name : List ℕ
   pub raw : RawNet
   pub compiles : Compiles words old name raw
   pub saves : Saved name (edif raw) old new
   pub says : line ≡ built_line (length raw.cells) (length raw.flops)
 
+-- Done of `check`: the source that the words name is there within its limit, it has a core, no file has changed, and the
+-- line has the core's counts.
+pub record HasChecked (words : List (List ℕ)) (old new : StoreState) (line : List ℕ) : Type 0 where
+  pub file : List ℕ
+  pub job : IsCheck words file
+  pub bytes : List ℕ
+  pub source : IsFile old.disk file bytes
+  pub within : length bytes ≤ source_limit
+  pub core : Core
+  pub accepted : Accepted bytes core
+  pub files : SameFiles old new
+  pub counts : MovesReads old new
+  pub says : line ≡ checked_line (length core.objects) (weight_of core) (flops_of core)
+
+-- Done: the job of the words was done.
+abbrev pub IsDone : List (List ℕ) → StoreState → StoreState → List ℕ → Type 0
+IsDone words old new line = HasBuilt words old new line ⊎ HasChecked words old new line
+
 -- Refused: the source that the words name is there within its limit, this refusal is its first, and no file has changed.
 pub record IsRefused (words : List (List ℕ)) (old new : StoreState) (refusal : Refusal) (line : List ℕ) : Type 0 where
   pub file : List ℕ
-  pub name : List ℕ
-  pub job : IsBuild words file name
+  pub job : Loads words file
   pub bytes : List ℕ
   pub source : IsFile old.disk file bytes
   pub within : length bytes ≤ source_limit
@@ -157,8 +185,7 @@ pub record IsUsage (words : List (List ℕ)) (old new : StoreState) (line : List
 -- ReadFault: there was a fault of reading, or there is no source of that name. No file has changed.
 pub record IsReadFault (words : List (List ℕ)) (old new : StoreState) (role : Role) (line : List ℕ) : Type 0 where
   pub file : List ℕ
-  pub name : List ℕ
-  pub job : IsBuild words file name
+  pub job : Loads words file
   pub cause : HasRisen old.reads new.reads ⊎ IsMissing old.disk file
   pub files : SameFiles old new
   pub counts : MovesReads old new
@@ -167,8 +194,7 @@ pub record IsReadFault (words : List (List ℕ)) (old new : StoreState) (role : 
 -- Longer: the source is over its limit. No file has changed.
 pub record IsOverLimit (words : List (List ℕ)) (old new : StoreState) (role : Role) (line : List ℕ) : Type 0 where
   pub file : List ℕ
-  pub name : List ℕ
-  pub job : IsBuild words file name
+  pub job : Loads words file
   pub longer : IsLonger old.disk file source_limit
   pub files : SameFiles old new
   pub counts : MovesReads old new

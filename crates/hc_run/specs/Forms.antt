@@ -1,11 +1,16 @@
--- The forms that circuits are built for, with their types: registers, and the values and residuals of the clock law.
+-- The forms that circuits are built for, with their types: registers, actions, and the values and residuals of the clock law.
 use Rattle.std.specs.Prelude.{◌≡◌, ℕ, List, Bool, Some, slice_get}
 use Rattle.hc_num.specs.Number.{Number}
+use Rattle.hc_core.specs.Program as p
 use Rattle.hc_core.specs.Read.{expression, statement}
 use Rattle.hc_core.specs.Typed.{IsNumber, kinds_of}
 use Rattle.hc_core.specs.Residual.{Value, Constant, Register, Sum, Residual, Skip, Assign, Delay, Then, Unbuilt, value, residual}
+use Rattle.hc_core.specs.declared.expr.BinOp.TheVariants.{Add}
 use Rattle.hc_core.specs.declared.expr.Expr.{Expr}
 use Rattle.hc_core.specs.declared.stmt.Stmt.{Stmt}
+use Rattle.hc_core.specs.declared.stmt.Stmt.TheVariants as s
+use Rattle.hc_core.specs.declared.stmt.Target.{Target}
+use Rattle.hc_core.specs.declared.stmt.Target.TheVariants as target
 use Rattle.hc_core.specs.declared.object.Kind.{Kind}
 use Rattle.hc_core.specs.declared.object.Kind.TheVariants.{Reg}
 use Rattle.hc_core.specs.declared.object.Core.{Core}
@@ -17,6 +22,24 @@ value_of e = value (expression e)
 -- a statement of a core as the clock law reads it
 abbrev pub residual_of : Stmt → Residual
 residual_of s = residual (statement s)
+
+-- a constant, a register, or a register plus a constant
+abbrev pub IsSimple : p.Expression → Type 0
+IsSimple (p.Constant n) = Unit {0}
+IsSimple (p.Register k) = Unit {0}
+IsSimple (p.Binary Add (p.Register k) (p.Constant n)) = Unit {0}
+IsSimple _ = ⊥
+
+-- a register that is written
+abbrev pub IsRegisterTarget : Target → Type 0
+IsRegisterTarget (target.Reg k) = Unit {0}
+IsRegisterTarget _ = ⊥
+
+-- an assignment of a simple expression to a register, or a delay
+abbrev pub IsAction : Stmt → Type 0
+IsAction (s.Assign place (target.Reg k) value) = IsSimple (expression value)
+IsAction (s.Delay place) = Unit {0}
+IsAction _ = ⊥
 
 -- The value has this width and sign.
 pub data Typed (kinds : List Kind) : Value → ℕ → Bool → Type 0 where

@@ -7,6 +7,10 @@ use Rattle.hc_run.specs.declared.status.Role.TheVariants.{Source}
 unfoldable pub built_line : ℕ → ℕ → List ℕ
 built_line gates flops = codes "built: gates " ++ decimal gates ++ codes ", flip-flops " ++ decimal flops ++ codes ", rams 0\n"
 
+-- what was checked, with the number of objects, the weight and the number of flip-flops
+unfoldable pub checked_line : ℕ → ℕ → ℕ → List ℕ
+checked_line objects weight flops = codes "objects " ++ decimal objects ++ codes ", weight " ++ decimal weight ++ codes ", flip-flops " ++ decimal flops ++ codes "\n"
+
 -- the words of every job
 unfoldable pub usage_line : List ℕ
 usage_line = codes "usage: hcc build FILE [--edif FILE] [--verilog FILE] | check FILE | sim FILE --stim FILE --trace FILE | nsim FILE --stim FILE --trace FILE | compare FILE --net FILE --stim FILE | gen N | cells\n"

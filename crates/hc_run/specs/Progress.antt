@@ -1,18 +1,16 @@
 -- A program without control as a chain of tokens, action by action.
-use Rattle.std.specs.Prelude.{◌≡◌, ◌<◌, ◌≤◌, ◌==◌, ℕ, ◌+◌, ◌*◌, ◌^◌, List, [], length, Bool, Some, take, slice_get, slice_index, slice_index_or, All}
+use Rattle.std.specs.Prelude.{◌≡◌, ◌<◌, ◌==◌, ℕ, ◌+◌, ◌*◌, ◌^◌, List, [], length, Bool, Some, take, slice_get, slice_index, slice_index_or, All}
 use Rattle.hc_core.specs.Residual.{Residual}
-use Rattle.hc_run.specs.Forms.{residual_of}
 use Rattle.hc_core.specs.Clock.{words}
 use Rattle.hc_core.specs.Straight.{acted}
 use Rattle.hc_core.specs.Typed.{kinds_of}
-use Rattle.hc_run.specs.Forms.{HasForms, IsTyped}
+use Rattle.hc_run.specs.Forms.{HasForms, IsAction, IsTyped, residual_of}
 use Rattle.hc_num.specs.Number.{Number}
 use Rattle.hc_core.specs.declared.object.Core.{Core}
 use Rattle.hc_core.specs.declared.object.Kind.TheVariants.{Reg}
 use Rattle.hc_core.specs.declared.stmt.Stmt.{Stmt}
 use Rattle.hc_net.specs.Run.{Trace}
 use Rattle.hc_net.specs.Circuit.{Circuit, History, Explains}
-use Rattle.hc_run.specs.FirstForm.{IsAction}
 use Rattle.hc_run.specs.Machine.{Adds, tokens}
 use Rattle.hc_run.specs.Objects.{AreNets, HasConstants, store_on}
 use Rattle.hc_run.specs.Action.{AreNext, number_at}
@@ -35,8 +33,7 @@ pub record CanChain (core : Core) (first : Circuit) (nets : List (List ℕ)) (pa
   pub sound : HasForms core
   pub actions : All IsAction parts
   pub typed : All (λ p. IsTyped (kinds_of core.objects) (residual_of p)) parts
-  pub few : length parts ≤ 200
   pub all : length nets ≡ length (kinds_of core.objects)
   pub width : (k width : ℕ) (signed : Bool) (init : Number) → slice_get (kinds_of core.objects) k ≡ Some (Reg width signed init) → length (slice_index_or nets k []) ≡ width
   pub below : (k : ℕ) → All (λ net. net < length first.nodes) (slice_index_or nets k [])
-  pub room : length first.nodes + 206500 < 2 ^ 32
+  pub room : length first.nodes + (1026 * length parts + 3) < 2 ^ 32

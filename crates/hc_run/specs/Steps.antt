@@ -7,22 +7,24 @@ use Rattle.hc_outside.specs.Count.{HasRisen}
 use Rattle.hc_outside.specs.Store.{Disk, StoreState, SameFiles, appended, closed}
 use Rattle.hc_outside.specs.Sink.{SinkState, Wrote, WroteFront}
 use Rattle.hc_tree.specs.declared.refusal.Refusal.{Refusal}
+use Rattle.hc_core.specs.Weight.{weight_of, flops_of}
 use Rattle.hc_core.specs.declared.object.Core.{Core}
 use Rattle.hc_net.specs.declared.net.RawNet.{RawNet}
 use Rattle.hc_net.specs.Valid.{IsValid}
 use Rattle.hc_run.specs.declared.status.Status.{Status}
 use Rattle.hc_run.specs.declared.status.Status.TheVariants as status
 use Rattle.hc_run.specs.declared.due.Due.{Due}
-use Rattle.hc_run.specs.declared.due.Due.TheVariants.{Built, Refused, Usage, ReadFault, Longer}
+use Rattle.hc_run.specs.declared.due.Due.TheVariants.{Built, Checked, Refused, Usage, ReadFault, Longer}
 use Rattle.hc_run.specs.Edif.{edif}
 use Rattle.hc_run.specs.Headline.{Implements}
 use Rattle.hc_run.specs.Refused.{refusal_line}
-use Rattle.hc_run.specs.Lines.{built_line, usage_line, read_fault_line, longer_line}
+use Rattle.hc_run.specs.Lines.{built_line, checked_line, usage_line, read_fault_line, longer_line}
 use Rattle.hc_run.specs.Answer.{Accepted, First, Saved, files_of, HoldsFront, IsDue, IsWriteFault, IsNoMemory, IsCutOff}
 
 -- the status that is due
 abbrev pub status_of : Due → Status
 status_of (Built gates flops) = status.Done
+status_of (Checked objects weight flops) = status.Done
 status_of (Refused refusal) = status.Refused refusal
 status_of Usage = status.Usage
 status_of (ReadFault role) = status.ReadFault role
@@ -31,6 +33,7 @@ status_of (Longer role) = status.Longer role
 -- the line of that status
 abbrev pub text_of : Due → List ℕ
 text_of (Built gates flops) = built_line gates flops
+text_of (Checked objects weight flops) = checked_line objects weight flops
 text_of (Refused refusal) = refusal_line refusal
 text_of Usage = usage_line
 text_of (ReadFault role) = read_fault_line role
@@ -54,6 +57,7 @@ pub record FilledFront (bytes : List ℕ) (old new : StoreState) : Type 0 where
 -- how a netlist was saved under a name
 abbrev pub Saves : RawNet → List ℕ → StoreState → StoreState → Result Due WriteErr → Type 0
 Saves raw name old new (Ok (Built gates flops)) = (gates ≡ length raw.cells) × (flops ≡ length raw.flops) × Saved name (edif raw) old new
+Saves raw name old new (Ok (Checked objects weight flops)) = ⊥
 Saves raw name old new (Ok (Refused refusal)) = ⊥
 Saves raw name old new (Ok Usage) = ⊥
 Saves raw name old new (Ok (ReadFault role)) = ⊥
@@ -88,6 +92,25 @@ pub record RefusesSource (bytes : List ℕ) (old new : StoreState) (result : Res
 -- how a source was compiled
 abbrev pub CompilesSource : List ℕ → List ℕ → StoreState → StoreState → Result Due WriteErr → Type 0
 CompilesSource bytes name old new result = BuildsAccepted bytes name old new result ⊎ RefusesSource bytes old new result ⊎ ((result ≡ Err write.NoMemory) × SameFiles old new)
+
+-- The source has this core, and these are its counts.
+pub record Counts (bytes : List ℕ) (of_objects of_weight of_flops : ℕ) : Type 0 where
+  pub core : Core
+  pub accepted : Accepted bytes core
+  pub objects : of_objects ≡ length core.objects
+  pub weight : of_weight ≡ weight_of core
+  pub flops : of_flops ≡ flops_of core
+
+-- how a source was checked
+abbrev pub ChecksSource : List ℕ → Result Due WriteErr → Type 0
+ChecksSource bytes (Ok (Checked objects weight flops)) = Counts bytes objects weight flops
+ChecksSource bytes (Ok (Refused refusal)) = First bytes refusal
+ChecksSource bytes (Ok (Built gates flops)) = ⊥
+ChecksSource bytes (Ok Usage) = ⊥
+ChecksSource bytes (Ok (ReadFault role)) = ⊥
+ChecksSource bytes (Ok (Longer role)) = ⊥
+ChecksSource bytes (Err write.WriteFault) = ⊥
+ChecksSource bytes (Err write.NoMemory) = Unit {0}
 
 -- how a job ended, before its line is written
 abbrev pub Performs : List (List ℕ) → StoreState → StoreState → Result Due WriteErr → Type 0

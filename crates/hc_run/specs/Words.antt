@@ -14,6 +14,16 @@ pub record IsBuild (line : List (List ℕ)) (file edif : List ℕ) : Type 0 wher
   pub output : IsTrue (is_file_name edif)
   pub apart : file ≢ edif
 
+-- The words are `check FILE`.
+pub record IsCheck (line : List (List ℕ)) (file : List ℕ) : Type 0 where
+  pub words : line ≡ codes "check" ∷ file ∷ []
+  pub source : IsTrue (is_file_name file)
+
+-- The words have a job that loads the source of this name.
+pub data Loads (line : List (List ℕ)) (file : List ℕ) : Type 0 where
+  to_build : (edif : List ℕ) → IsBuild line file edif → Loads line file
+  to_check : IsCheck line file → Loads line file
+
 -- The words have no job.
 abbrev pub HasNoJob : List (List ℕ) → Type 0
-HasNoJob words = (file edif : List ℕ) → IsBuild words file edif → ⊥
+HasNoJob words = (file : List ℕ) → Loads words file → ⊥

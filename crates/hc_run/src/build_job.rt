@@ -3,26 +3,24 @@ ghost use Rattle.std.specs.String.{string_bytes};
 ghost use Rattle.hc_outside.specs.Count.{HasRisen};
 ghost use Rattle.hc_outside.specs.Store.{SameFiles, Appended, AppendedFront, MovesWrites};
 ghost use Rattle.hc_net.specs.Valid.{IsValid};
-ghost use Rattle.hc_run.specs.FirstForm.{IsFirstForm};
+ghost use Rattle.hc_run.specs.Built.{IsBuildable};
 ghost use Rattle.hc_run.specs.Edif.{edif};
 ghost use Rattle.hc_run.specs.Words.{IsBuild};
 ghost use Rattle.hc_run.specs.Answer.{source_limit, Saved, HoldsFront, MovesCounts};
 ghost use Rattle.hc_run.specs.Steps.{Filled, FilledFront, Saves, BuildsCore, CompilesSource, Performs};
 
+use crate::check_job::check_file;
 use crate::circuits::build;
 use crate::due::Due;
 use crate::edif::write_edif;
-use crate::reader::read_source;
+use crate::source::{SOURCE_LIMIT, read_source};
 use crate::status::Role;
-use crate::words::read_words;
+use crate::words::{Job, read_words};
 use hc_core::Core;
 use hc_net::RawNet;
 use hc_outside::{LoadErr, OpenFile, Store, StoreErr, WriteErr};
 use hc_tree::FrontErr;
 use std::alloc::Global;
-
-/// How many bytes a source may have: 4 MiB.
-const SOURCE_LIMIT: u64 = 4_194_304;
 
 /// Does the job of the words, and says how it ended.
 ///
@@ -37,7 +35,8 @@ pub(crate) fn perform<S: Store>(
     ensures counts { MovesCounts (S.state store.old) (S.state store.new) }
 {
     match read_words(words) {
-        Some(job) => build_file(alloc, job.file, job.edif, store),
+        Some(Job::Build { file, edif }) => build_file(alloc, file, edif, store),
+        Some(Job::Check { file }) => check_file(alloc, file, store),
         None => Ok(Due::Usage),
     }
 }
@@ -84,7 +83,7 @@ fn build_core<S: Store>(
     name: &str,
     store: &mut S,
 ) -> Result<Due, WriteErr>
-    requires form { IsFirstForm core.now }
+    requires buildable { IsBuildable core.now }
     requires closed { (S.state store.old).is_open ≡ false }
     ensures builds { BuildsCore core.now name.now (S.state store.old) (S.state store.new) result }
     ensures counts { MovesWrites (S.state store.old) (S.state store.new) }

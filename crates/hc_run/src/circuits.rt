@@ -6,6 +6,7 @@ mod adder;
 mod chain;
 mod choice;
 mod feeding;
+mod leaves;
 mod netlist;
 mod registers;
 mod token;

@@ -1,6 +1,6 @@
 ghost use Rattle.std.specs.Prelude.{◌≡◌, IfOk};
 ghost use Rattle.hc_run.specs.Steps.{status_of, text_of};
-ghost use Rattle.hc_run.specs.Lines.{built_line, read_fault_line, longer_line, usage_line, role_name};
+ghost use Rattle.hc_run.specs.Lines.{built_line, checked_line, read_fault_line, longer_line, usage_line, role_name};
 
 use crate::refused::refusal_line;
 use crate::status::{Role, Status};
@@ -12,7 +12,16 @@ use std::alloc::{AllocError, Global};
 #[derive(Drop)]
 pub(crate) enum Due {
     /// A netlist with so many gates and flip-flops was saved.
-    Built { gates: usize, flops: usize },
+    Built {
+        gates: usize,
+        flops: usize,
+    },
+    /// A core was checked that has so many objects, this weight and so many flip-flops.
+    Checked {
+        objects: usize,
+        weight: u64,
+        flops: u64,
+    },
     Refused(Refusal),
     Usage,
     ReadFault(Role),
@@ -26,6 +35,7 @@ impl Due {
     {
         match self {
             Due::Built { .. } => Status::Done,
+            Due::Checked { .. } => Status::Done,
             Due::Refused(refusal) => Status::Refused(refusal),
             Due::Usage => Status::Usage,
             Due::ReadFault(role) => Status::ReadFault(role),
@@ -39,6 +49,11 @@ impl Due {
     {
         match self {
             Due::Built { gates, flops } => built(alloc, *gates, *flops),
+            Due::Checked {
+                objects,
+                weight,
+                flops,
+            } => checked(alloc, *objects, *weight, *flops),
             Due::Refused(refusal) => refusal_line(alloc, refusal),
             Due::Usage => usage(alloc),
             Due::ReadFault(role) => read_fault(alloc, *role),
@@ -57,6 +72,21 @@ fn built(alloc: Global, gates: usize, flops: usize) -> Result<Vec<u8>, AllocErro
     line.extend_from_slice(b", flip-flops ")?;
     line.extend_from_slice(digits.format(flops).as_bytes())?;
     line.extend_from_slice(b", rams 0\n")?;
+    Ok(line)
+}
+
+#[tactic(auto, unfolding(crate::specs::Lines::checked_line))]
+fn checked(alloc: Global, objects: usize, weight: u64, flops: u64) -> Result<Vec<u8>, AllocError>
+    ensures { IfOk result (λ line. line.items ≡ checked_line objects weight flops) }
+{
+    let mut digits = Buffer::new();
+    let mut line = Vec::from_slice(alloc, b"objects ")?;
+    line.extend_from_slice(digits.format(objects).as_bytes())?;
+    line.extend_from_slice(b", weight ")?;
+    line.extend_from_slice(digits.format(weight).as_bytes())?;
+    line.extend_from_slice(b", flip-flops ")?;
+    line.extend_from_slice(digits.format(flops).as_bytes())?;
+    line.extend_from_slice(b"\n")?;
     Ok(line)
 }
 

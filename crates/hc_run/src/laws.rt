@@ -8,6 +8,8 @@ pub fn one_core()
     ensures { (bytes : List ℕ) (core other : Core) → Accepted bytes core → Accepted bytes other → core ≡ other }
 {
     hc_lex::one_reading();
+    hc_parse::one_tree();
+    hc_expand::one_core();
 }
 
 /// All first refusals of the same bytes are equal.
@@ -17,8 +19,12 @@ pub fn one_first_refusal()
     hc_lex::one_reading();
     hc_lex::one_first_breach();
     hc_lex::never_both();
+    hc_parse::one_tree();
     hc_parse::one_first_refusal();
     hc_parse::never_both();
+    hc_expand::one_core();
+    hc_expand::one_refusal();
+    hc_expand::never_both();
 }
 
 /// Bytes have a core or a first refusal.
@@ -27,6 +33,7 @@ pub fn core_or_refusal()
 {
     hc_lex::tokens_or_breach();
     hc_parse::tree_or_refusal();
+    hc_expand::core_or_refusal();
 }
 
 /// Bytes that have a core have no first refusal.
@@ -35,5 +42,8 @@ pub fn never_both()
 {
     hc_lex::one_reading();
     hc_lex::never_both();
+    hc_parse::one_tree();
     hc_parse::never_both();
+    hc_expand::one_core();
+    hc_expand::never_both();
 }

@@ -2,17 +2,19 @@
 #![tactic(auto)]
 
 mod build_job;
+mod check_job;
 mod circuits;
 mod due;
 mod edif;
 mod laws;
-mod reader;
 mod refused;
+mod source;
 mod status;
 #[cfg(test)]
 mod tests;
 mod text;
 mod top;
+mod unbuilt;
 mod words;
 
 pub use laws::{core_or_refusal, never_both, one_core, one_first_refusal};

@@ -4,7 +4,7 @@ ghost use Rattle.hc_outside.specs.Count.{HasRisen};
 ghost use Rattle.hc_outside.specs.Store.{IsMissing, SameFiles};
 ghost use Rattle.hc_core.specs.declared.object.Core.{Core};
 ghost use Rattle.hc_tree.specs.declared.refusal.Refusal.{Refusal};
-ghost use Rattle.hc_run.specs.Words.{IsBuild, HasNoJob};
+ghost use Rattle.hc_run.specs.Words.{Loads, HasNoJob};
 ghost use Rattle.hc_run.specs.declared.status.Role.{Role};
 ghost use Rattle.hc_run.specs.Answer.{
   source_limit,
@@ -61,20 +61,20 @@ pub fn hcc<S: Store, K: Sink>(alloc: Global, words: &[String], store: &mut S, ou
 
     ensures usage_where { HasNoJob (map string_bytes words.now) →
         (result ≡ Status.Usage) ⊎ LineFails (K.state out.old) (K.state out.new) result }
-    ensures missing_where { (file name : List ℕ) → IsBuild (map string_bytes words.now) file name →
+    ensures missing_where { (file : List ℕ) → Loads (map string_bytes words.now) file →
         IsMissing (S.state store.old).disk file →
         (result ≡ Status.ReadFault Role.Source) ⊎ LineFails (K.state out.old) (K.state out.new) result }
-    ensures longer_where { (file name bytes : List ℕ) → IsBuild (map string_bytes words.now) file name →
+    ensures longer_where { (file bytes : List ℕ) → Loads (map string_bytes words.now) file →
         HasFile (S.state store.old).disk file bytes → source_limit < length bytes →
         (result ≡ Status.Longer Role.Source)
         ⊎ LoadFails (S.state store.old) (S.state store.new) result
         ⊎ LineFails (K.state out.old) (K.state out.new) result }
-    ensures refused_where { (file name bytes : List ℕ) (refusal : Refusal) → IsBuild (map string_bytes words.now) file name →
+    ensures refused_where { (file bytes : List ℕ) (refusal : Refusal) → Loads (map string_bytes words.now) file →
         HasFile (S.state store.old).disk file bytes → length bytes ≤ source_limit → First bytes refusal →
         (result ≡ Status.Refused refusal)
         ⊎ LoadFails (S.state store.old) (S.state store.new) result
         ⊎ LineFails (K.state out.old) (K.state out.new) result }
-    ensures completeness { (file name bytes : List ℕ) (core : Core) → IsBuild (map string_bytes words.now) file name →
+    ensures completeness { (file bytes : List ℕ) (core : Core) → Loads (map string_bytes words.now) file →
         HasFile (S.state store.old).disk file bytes → length bytes ≤ source_limit → Accepted bytes core →
         ¬ HasRisen (S.state store.old).reads (S.state store.new).reads →
         ¬ HasRisen (S.state store.old).writes (S.state store.new).writes →
@@ -88,7 +88,7 @@ pub fn hcc<S: Store, K: Sink>(alloc: Global, words: &[String], store: &mut S, ou
     ensures counts { MovesCounts (S.state store.old) (S.state store.new) }
     ensures sure_writes { (S.state store.old).sure ≡ true → (K.state out.old).sure ≡ true → result ≢ Status.WriteFault }
     ensures sure_reads { (S.state store.old).sure ≡ true → (role : Role) → result ≡ Status.ReadFault role →
-        (file name : List ℕ) → IsBuild (map string_bytes words.now) file name → IsMissing (S.state store.old).disk file }
+        (file : List ℕ) → Loads (map string_bytes words.now) file → IsMissing (S.state store.old).disk file }
 {
     // The laws that `refused_where` and `completeness` stand on.
     one_first_refusal();

@@ -5,4 +5,3 @@ pub mod Steps
 pub mod Kept
 pub mod KeptBinary
 pub mod Rows
-pub mod OneObject

@@ -12,8 +12,6 @@ mod judging;
 mod making;
 mod one_operand;
 mod parts;
-#[cfg(test)]
-mod tests;
 mod two_operands;
 mod types;
 mod value;

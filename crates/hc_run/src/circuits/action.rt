@@ -1,10 +1,8 @@
 ghost use Rattle.std.specs.Prelude.{◌≡◌, OnOk};
 ghost use Rattle.hc_core.specs.Residual.{Assign};
-ghost use Rattle.hc_run.specs.Forms.{value_of, residual_of};
+ghost use Rattle.hc_run.specs.Forms.{IsAction, IsRegisterTarget, value_of, residual_of};
 ghost use Rattle.hc_core.specs.declared.stmt.Target.TheVariants.{Reg};
-ghost use Rattle.hc_run.specs.FirstForm.{IsRegisterTarget};
 ghost use Rattle.hc_run.specs.Action.{CanAct, Acts};
-ghost use Rattle.hc_run.specs.FirstForm.{IsAction};
 
 use crate::circuits::choice::choose;
 use crate::circuits::value::{ObjectNets, value};

@@ -31,11 +31,11 @@ fn begin(
     b: &mut Builder,
     core: &Core,
     objects: Items<Nets>,
-    parts: &[Stmt],
+    parts: &[&Stmt],
 ) -> Result<(ObjectNets, u32), NoMemory>
-    requires { CanChain core.now b.old objects parts.now }
+    requires { CanChain core.now b.old objects (map (λ s. s.now) parts.now) }
     ensures { IfOk result (λ r. (r.0.objects ≡ objects)
-        × Progress core.now r.0 (map residual_of parts.now) b.old b.new 0 r.1 objects) }
+        × Progress core.now r.0 (map residual_of (map (λ s. s.now) parts.now)) b.old b.new 0 r.1 objects) }
 {
     let zero = gate(b, GateKind::Zero, 0, 0)?;
     let one = gate(b, GateKind::One, 0, 0)?;
@@ -50,17 +50,17 @@ pub(crate) fn chain(
     b: &mut Builder,
     core: &Core,
     objects: Items<Nets>,
-    parts: &[Stmt],
+    parts: &[&Stmt],
 ) -> Result<(ObjectNets, Items<Nets>), NoMemory>
-    requires { CanChain core.now b.old objects parts.now }
+    requires { CanChain core.now b.old objects (map (λ s. s.now) parts.now) }
     ensures { IfOk result (λ r. (r.0.objects ≡ objects) × ((last : ℕ)
-        × Progress core.now r.0 (map residual_of parts.now) b.old b.new (length parts.now) last r.1)) }
+        × Progress core.now r.0 (map residual_of (map (λ s. s.now) parts.now)) b.old b.new (length parts.now) last r.1)) }
 {
     let (at, first) = begin(b, core, objects, parts)?;
     let mut next = copies(alloc, &at.objects)?;
     let mut holder = first;
     for i in 0..parts.len() {
-        act(alloc, b, core, &at, holder, &mut next, &parts[i])?;
+        act(alloc, b, core, &at, holder, &mut next, parts[i])?;
         holder = token(b, i as u32 + 1, false, holder)?;
     }
     Ok((at, next))

@@ -54,8 +54,8 @@ pub(crate) fn registers(
     core: &Core,
 ) -> Result<Items<Nets>, NoMemory>
     requires sound { HasForms core.now }
-    requires few { length core.now.objects ≤ 100 }
-    requires room { length b.old.nodes + 12900 < 2 ^ 32 }
+    requires few { length core.now.objects ≤ 500000 }
+    requires room { length b.old.nodes + 64000128 < 2 ^ 32 }
     ensures { IfOk result (MakesRegisters (kinds_of core.now.objects) b.old b.new) }
 {
     let mut all = Items::new(alloc);

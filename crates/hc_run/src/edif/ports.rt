@@ -67,7 +67,7 @@ fn push_bit_pin(text: &mut Vec<u8>, port: &Port, bit: u32) -> Result<(), AllocEr
         Port::Input { pins, .. } => pins,
         Port::Output { pins, .. } => pins,
     };
-    match pins.get(bit as usize) {
+    match pins.as_slice().get(bit as usize) {
         Some(pin) => push_pin_property(text, pin),
         None => Ok(()),
     }

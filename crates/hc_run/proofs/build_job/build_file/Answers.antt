@@ -1,4 +1,6 @@
-use Rattle.hc_run.proofs.Jobs.{Performs-compiled}
+use Rattle.std.proofs.Common.{Err, ap}
+use Rattle.hc_run.specs.Words.{to_build}
+use Rattle.hc_run.proofs.Jobs.{Performs-compiled, Performs-failed, Performs-longer}
 use Rattle.hc_run.proofs.build_job.build_file.Goals as goal
 
 pub returns-in-Ok-clause-performs : goal.returns-in-Ok-clause-performs
@@ -6,3 +8,13 @@ returns-in-Ok-clause-performs g c = λ words job.
     Performs-compiled words c.args.file.now c.args.name.now c.load.new.into.items
     (g.S.Store.state c.args.store.now) (g.S.Store.state c.load.new.self) (g.S.Store.state c.compile.new.store) c.compile.result
     job c.in-Ok.ensures.ok c.in-Ok.ensures.within c.in-Ok.ensures.files c.in-Ok.ensures.counts (rw c.as_slice.ensures.value at c.compile.ensures.compiles)
+
+pub returns-in-Err-Failed-clause-performs : goal.returns-in-Err-Failed-clause-performs
+returns-in-Err-Failed-clause-performs g c = λ words job.
+    Performs-failed words c.args.file.now (g.S.Store.state c.args.store.now) (g.S.Store.state c.load.new.self)
+    (to_build c.args.name.now job) (c.in-Err-Failed.ensures.failed (ap Err c.in-Err-Failed.field-0-is)) c.in-Err-Failed.ensures.files c.in-Err-Failed.ensures.counts
+
+pub returns-in-Err-Longer-clause-performs : goal.returns-in-Err-Longer-clause-performs
+returns-in-Err-Longer-clause-performs g c = λ words job.
+    Performs-longer words c.args.file.now (g.S.Store.state c.args.store.now) (g.S.Store.state c.load.new.self)
+    (to_build c.args.name.now job) (c.in-Err-Longer.ensures.longer (ap Err c.in-Err-Longer.field-0-is)) c.in-Err-Longer.ensures.files c.in-Err-Longer.ensures.counts

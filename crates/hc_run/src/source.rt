@@ -1,0 +1,91 @@
+//! From the bytes of a source to its core, or to its first refusal.
+
+ghost use Rattle.std.specs.Prelude.{◌≡◌, ◌≤◌, None, length, IfOk, IfErr};
+ghost use Rattle.std.specs.List.{All};
+ghost use Rattle.hc_expand.specs.Spelled.{IsSpelled};
+ghost use Rattle.hc_lex.specs.Lexes.{IsPlain};
+ghost use Rattle.hc_core.specs.Sound.{IsSound};
+ghost use Rattle.hc_core.specs.Weight.{weight_of};
+ghost use Rattle.hc_rules.specs.Weight.{most_weight};
+ghost use Rattle.hc_run.specs.Answer.{source_limit, IsSource, Accepted, FirstOfCore, FirstOfTokens, First, IfRefusal};
+ghost use Rattle.hc_run.specs.Built.{unbuilt, IsBuildable};
+ghost use Rattle.hc_run.specs.Source.{IsTreeOf, FirstOfTree};
+
+use crate::unbuilt::check_built;
+use hc_core::Core;
+use hc_expand::expand;
+use hc_lex::{Tokens, lex, tokens_are_plain};
+use hc_parse::parse;
+use hc_rules::check_weight;
+use hc_tree::{FrontErr, Refusal, Tree};
+use std::alloc::Global;
+
+/// How many bytes a source may have: 4 MiB.
+pub(crate) const SOURCE_LIMIT: u64 = 4_194_304;
+
+/// The core of a source, or its first refusal: S1, L1 or L2 of its bytes, then S3, L3 or S2 of its tokens, then the first
+/// of S23, S4 to S15, S24, L4 to L7 and L9 of its tree, and then L8 and `NotBuilt` of its core.
+pub(crate) fn read_source(alloc: Global, bytes: &[u8]) -> Result<Core, FrontErr>
+    requires { length bytes.now ≤ source_limit }
+    ensures accepted { IfOk result (Accepted bytes.now) }
+    ensures buildable { IfOk result IsBuildable }
+    ensures refused { IfErr result (λ e. IfRefusal e (First bytes.now)) }
+{
+    tokens_are_plain();
+    match lex(alloc, bytes) {
+        Ok(tokens) => read_tokens(alloc, &tokens),
+        Err(e) => Err(e),
+    }
+}
+
+/// The core of tokens, or their first refusal.
+fn read_tokens(alloc: Global, tokens: &Tokens) -> Result<Core, FrontErr>
+    requires { All IsPlain tokens.now.tokens }
+    ensures source { IfOk result (IsSource tokens.now.tokens) }
+    ensures buildable { IfOk result IsBuildable }
+    ensures refused { IfErr result (λ e. IfRefusal e (FirstOfTokens tokens.now.tokens tokens.now.end)) }
+{
+    match parse(alloc, tokens) {
+        Ok(tree) => read_tree(alloc, &tree),
+        Err(e) => Err(e),
+    }
+}
+
+/// The core of a tree, or its first refusal.
+fn read_tree(alloc: Global, tree: &Tree) -> Result<Core, FrontErr>
+    requires { IsSpelled tree.now }
+    ensures source { IfOk result (IsTreeOf tree.now) }
+    ensures buildable { IfOk result IsBuildable }
+    ensures refused { IfErr result (λ e. IfRefusal e (FirstOfTree tree.now)) }
+{
+    match expand(alloc, tree) {
+        Ok(core) => checked(core),
+        Err(e) => Err(e),
+    }
+}
+
+/// A core that can be built, or its first refusal.
+fn checked(core: Core) -> Result<Core, FrontErr>
+    requires { IsSound core }
+    ensures same { IfOk result (λ found. found ≡ core) }
+    ensures buildable { IfOk result IsBuildable }
+    ensures refused { IfErr result (λ e. IfRefusal e (FirstOfCore core)) }
+{
+    match check_core(&core) {
+        Ok(()) => Ok(core),
+        Err(refusal) => Err(FrontErr::Refused(refusal)),
+    }
+}
+
+/// That a core can be built, or its first refusal: L8, and then `NotBuilt`.
+fn check_core(core: &Core) -> Result<(), Refusal>
+    requires { IsSound core.now }
+    ensures light { IfOk result (λ _. weight_of core.now ≤ most_weight) }
+    ensures built { IfOk result (λ _. unbuilt core.now ≡ None) }
+    ensures refused { IfErr result (FirstOfCore core.now) }
+{
+    match check_weight(core) {
+        Ok(()) => check_built(core),
+        Err(refusal) => Err(refusal),
+    }
+}
