@@ -32,7 +32,7 @@ pub less_made : (old m1 m2 m3 new : Circuit) (x y s g p : List ℕ) (top : ℕ) 
     → Makes (length s) (s ++ y) m1 m2 g (λ v. map v g ≡ each ◌&&◌ (map v s) (map v y))
     → Makes (length s) s m2 m3 p (λ v. (gs : List Bool) → carries false gs (map v p) ≡ carries false gs (turned (map v s)))
     → Makes (3 * length g) (g ++ p) m3 new (top ∷ []) (λ v. v top ≡ last_of false (carries false (map v g) (map v p)))
-    → Makes (8 * length x + 4) (x ++ y) old new (top ∷ []) (λ v. held false v (top ∷ []) ≡ truth (is_less (held false v x) (held false v y)))
+    → Makes (6 * length x) (x ++ y) old new (top ∷ []) (λ v. held false v (top ∷ []) ≡ truth (is_less (held false v x) (held false v y)))
 less_made old m1 m2 m3 new x y s g p top h some sw gw a b c d =
     let args = x ++ y in
     let generates = Makes-then a b (All-append (Over m1.nodes args) s y a.reach (Over-right x y)) in
@@ -137,8 +137,8 @@ exchanged_there size n x y left is inside all_x all_y =
 
 pub less_signed_made : (old new : Circuit) (x y left right z : List ℕ) (n : ℕ) → length x ≡ n + 1 → length y ≡ n + 1
     → left ≡ take n x ++ get_or y n 0 ∷ [] → right ≡ take n y ++ get_or x n 0 ∷ []
-    → Makes (8 * length left + 4) (left ++ right) old new z (λ v. held false v z ≡ truth (is_less (held false v left) (held false v right)))
-    → Makes (8 * length x + 4) (x ++ y) old new z (λ v. held false v z ≡ truth (is_less (held true v x) (held true v y)))
+    → Makes (6 * length left) (left ++ right) old new z (λ v. held false v z ≡ truth (is_less (held false v left) (held false v right)))
+    → Makes (6 * length x) (x ++ y) old new z (λ v. held false v z ≡ truth (is_less (held true v x) (held true v y)))
 less_signed_made old new x y left right z n xw yw left_is right_is p =
     let args = x ++ y in
     let from_x = Over-left {nodes = new.nodes} x y in

@@ -48,7 +48,7 @@ pub equal_made : (xs ys unequal some z : List ℕ) (old first second new : Circu
     → Makes (length xs) (xs ++ ys) old first unequal (λ v. (s : Bool) → held s v unequal ≡ exclusive_or (held s v xs) (held s v ys))
     → Makes (length unequal) unequal first second some (λ v. (s : Bool) → held false v some ≡ truth (not ((held s v unequal).bits == 0)))
     → Makes (length some) some second new z (λ v. (s : Bool) → held s v z ≡ complement (held s v some))
-    → Makes (4 * length xs) (xs ++ ys) old new z (λ v. (s : Bool) → held false v z ≡ truth (is_equal (held s v xs) (held s v ys)))
+    → Makes (3 * length xs) (xs ++ ys) old new z (λ v. (s : Bool) → held false v z ≡ truth (is_equal (held s v xs) (held s v ys)))
 equal_made xs ys unequal some z old first second new width one least a b c =
     let tree = Makes-last a b a.reach in
     Makes-holds (Makes-last tree c tree.reach) (omega arith)

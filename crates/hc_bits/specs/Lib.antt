@@ -2,3 +2,4 @@ pub mod Held
 pub mod Moved
 pub mod Carry
 pub mod Sample
+pub mod Elements

@@ -14,9 +14,9 @@ pub fn equal(alloc: Global, b: &mut Builder, x: &Nets, y: &Nets) -> Result<Nets,
     requires right { All (λ k. k < length b.old.nodes) y.now }
     requires width { length y.now ≡ length x.now }
     requires some { 1 ≤ length x.now }
-    requires room { length b.old.nodes + 4 * length x.now < 2 ^ 32 }
+    requires room { length b.old.nodes + 3 * length x.now < 2 ^ 32 }
     ensures width { IfOk result (λ z. length z ≡ 1) }
-    ensures circuit { IfOk result (λ z. Makes (4 * length x.now) (x.now ++ y.now) b.old b.new z (λ v. (s : Bool) → held false v z ≡ truth (is_equal (held s v x.now) (held s v y.now)))) }
+    ensures circuit { IfOk result (λ z. Makes (3 * length x.now) (x.now ++ y.now) b.old b.new z (λ v. (s : Bool) → held false v z ≡ truth (is_equal (held s v x.now) (held s v y.now)))) }
 {
     let unequal = match bxor(alloc, b, x, y) {
         Ok(unequal) => unequal,

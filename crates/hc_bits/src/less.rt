@@ -15,9 +15,9 @@ pub fn less_unsigned(alloc: Global, b: &mut Builder, x: &Nets, y: &Nets) -> Resu
     requires right { All (λ k. k < length b.old.nodes) y.now }
     requires width { length y.now ≡ length x.now }
     requires some { 1 ≤ length x.now }
-    requires room { length b.old.nodes + 8 * length x.now + 4 < 2 ^ 32 }
+    requires room { length b.old.nodes + 6 * length x.now < 2 ^ 32 }
     ensures width { IfOk result (λ z. length z ≡ 1) }
-    ensures circuit { IfOk result (λ z. Makes (8 * length x.now + 4) (x.now ++ y.now) b.old b.new z (λ v. held false v z ≡ truth (is_less (held false v x.now) (held false v y.now)))) }
+    ensures circuit { IfOk result (λ z. Makes (6 * length x.now) (x.now ++ y.now) b.old b.new z (λ v. held false v z ≡ truth (is_less (held false v x.now) (held false v y.now)))) }
 {
     let (x, y) = (x.as_slice(), y.as_slice());
     let s = each(alloc, b, GateKind::Xor, x, y)?;
@@ -36,9 +36,9 @@ pub fn less_signed(alloc: Global, b: &mut Builder, x: &Nets, y: &Nets) -> Result
     requires right { All (λ k. k < length b.old.nodes) y.now }
     requires width { length y.now ≡ length x.now }
     requires some { 1 ≤ length x.now }
-    requires room { length b.old.nodes + 8 * length x.now + 4 < 2 ^ 32 }
+    requires room { length b.old.nodes + 6 * length x.now < 2 ^ 32 }
     ensures width { IfOk result (λ z. length z ≡ 1) }
-    ensures circuit { IfOk result (λ z. Makes (8 * length x.now + 4) (x.now ++ y.now) b.old b.new z (λ v. held false v z ≡ truth (is_less (held true v x.now) (held true v y.now)))) }
+    ensures circuit { IfOk result (λ z. Makes (6 * length x.now) (x.now ++ y.now) b.old b.new z (λ v. held false v z ≡ truth (is_less (held true v x.now) (held true v y.now)))) }
 {
     let (x, y) = (x.as_slice(), y.as_slice());
     let top = x.len() - 1;
