@@ -1,1 +1,3 @@
 mod Rows
+pub mod Straight
+pub mod Clean

@@ -3,3 +3,4 @@ pub mod Value
 pub mod Control
 pub mod Clock
 pub mod Run
+pub mod Straight
