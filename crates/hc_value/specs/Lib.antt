@@ -1,0 +1,5 @@
+pub mod Objects
+pub mod Reads
+pub mod Operands
+pub mod Moves
+pub mod Elements
