@@ -10,12 +10,12 @@ use Rattle.hc_tree.specs.declared.stmt.Stmt as tree
 use Rattle.hc_core.specs.Program.{Expression, Statement, If}
 use Rattle.hc_core.specs.Read.{statement}
 use Rattle.hc_core.specs.declared.stmt.Stmt.{Stmt}
-use Rattle.hc_expand.specs.Expansion.{Outcome, Yields, Refuses, and_then, pure}
+use Rattle.hc_scope.specs.Expansion.{Outcome, Yields, Refuses, and_then, pure}
 use Rattle.hc_expand.specs.Forms.{IsMade, Both, both, if_branches, Loop, loop_last, loop_condition, loop_parts, loop_body}
-use Rattle.hc_expand.specs.Parts.{Parts, Context}
-use Rattle.hc_expand.specs.Reading.{Answers}
-use Rattle.hc_expand.specs.Statement.{statement_layer, statement_or_skip, simple_or_skip, condition_or_one}
-use Rattle.hc_expand.specs.declared.state.State.{State}
+use Rattle.hc_scope.specs.Parts.{Parts, Context}
+use Rattle.hc_scope.specs.Reading.{Answers}
+use Rattle.hc_scope.specs.Statement.{statement_layer, statement_or_skip, simple_or_skip, condition_or_one}
+use Rattle.hc_scope.specs.declared.state.State.{State}
 use Rattle.hc_expand.proofs.Made.{made_answers}
 
 -- ---- `if`

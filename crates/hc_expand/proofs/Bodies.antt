@@ -10,11 +10,11 @@ use Rattle.hc_tree.specs.declared.refusal.FrontErr.TheVariants.{Refused, NoMemor
 use Rattle.hc_tree.specs.declared.refusal.Rule.TheVariants.{L5}
 use Rattle.hc_tree.specs.declared.refusal.Detail.TheVariants.{Nothing}
 use Rattle.hc_core.specs.Program.{Statement}
-use Rattle.hc_expand.specs.declared.state.State.{State}
-use Rattle.hc_expand.specs.Expansion.{Outcome, Yields, Refuses, and_then, pure}
-use Rattle.hc_expand.specs.Parts.{Parts, Context}
-use Rattle.hc_expand.specs.Reading.{Answers}
-use Rattle.hc_expand.specs.Statement.{turn, turns, turns_behind}
+use Rattle.hc_scope.specs.declared.state.State.{State}
+use Rattle.hc_scope.specs.Expansion.{Outcome, Yields, Refuses, and_then, pure}
+use Rattle.hc_scope.specs.Parts.{Parts, Context}
+use Rattle.hc_scope.specs.Reading.{Answers}
+use Rattle.hc_scope.specs.Statement.{turn, turns, turns_behind}
 
 -- these bodies, and those that follow
 abbrev pub behind : List Statement → Outcome (List Statement) → Outcome (List Statement)

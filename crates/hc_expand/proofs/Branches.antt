@@ -19,12 +19,12 @@ use Rattle.hc_core.proofs.Read.{read_Prialt, read_PrialtElse, read_Switch, read_
 use Rattle.hc_width.specs.Operand as width
 use Rattle.hc_expand.specs.Branches.{arm_read, IsArm, IsOffered, IsCase}
 use Rattle.hc_expand.specs.Forms.{parts_read}
-use Rattle.hc_expand.specs.Sound.{Grows}
-use Rattle.hc_expand.specs.Statement.{in_order, cases_of, arms_of}
-use Rattle.hc_expand.specs.Targets.{IsChannelOf}
+use Rattle.hc_scope.specs.Sound.{Grows}
+use Rattle.hc_scope.specs.Statement.{in_order, cases_of, arms_of}
+use Rattle.hc_evaluate.specs.Targets.{IsChannelOf}
 use Rattle.hc_expand.specs.declared.cases.Offered.{Offered}
 use Rattle.hc_expand.specs.declared.cases.Offered.TheVariants as o
-use Rattle.hc_expand.proofs.Longer.{grown_typed}
+use Rattle.hc_scope.proofs.Longer.{grown_typed}
 use Rattle.hc_expand.proofs.Kept.{grown_cases, grown_arms, grown_sends, grown_receives}
 use Rattle.hc_expand.proofs.Listed.{read_sequence}
 

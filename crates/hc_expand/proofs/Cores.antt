@@ -1,9 +1,8 @@
 -- The core of a tree: what it answers, and that it is sound.
-use Rattle.std.proofs.Common.{◌≡◌, ◌≢◌, ◌<◌, ◌-◌, ◌^◌, ℕ, List, [], ◌∷◌, length, take, drop, Some, None, Result, Ok, Err, IfOk, AllPairs, All, arith, refl, sym, ap, ◌∙◌, subst}
+use Rattle.std.proofs.Common.{◌≡◌, ◌≢◌, ◌<◌, ◌^◌, ℕ, List, [], ◌∷◌, length, Some, None, Result, Ok, Err, IfOk, AllPairs, arith, refl, sym, ap, ◌∙◌, subst}
 use Rattle.std.specs.Prelude.{IfErr}
 use Rattle.std.specs.List.{list_any}
-use Rattle.std.proofs.lemmas.List.{take_rest}
-use Rattle.std.proofs.lemmas.List.Elements.{All-same, All-head, All-rest}
+use Rattle.std.proofs.lemmas.List.Elements.{All-same}
 use Rattle.hc_tree.specs.declared.place.Place.{Place}
 use Rattle.hc_tree.specs.declared.refusal.Refusal.{Refusal}
 use Rattle.hc_tree.specs.declared.refusal.FrontErr.{FrontErr}
@@ -20,22 +19,21 @@ use Rattle.hc_core.specs.declared.object.Core.{Core}
 use Rattle.hc_core.specs.declared.object.Object.{Object}
 use Rattle.hc_core.specs.declared.stmt.Stmt.{Stmt}
 use Rattle.hc_expand.specs.Answered.{IfRefused, IsCore, IsRefusal}
-use Rattle.hc_expand.specs.Expands.{Items, items, Program, main_of, whole, checked, is_clock, is_main, expansion, program_of, Expands, Stops}
-use Rattle.hc_expand.specs.Expansion.{Outcome, Yields, Refuses, Expansion, and_then, made, ◌>>=◌, pure}
+use Rattle.hc_scope.specs.Expands.{Items, items, Program, main_of, whole, checked, is_clock, is_main, expansion, program_of, Expands, Stops}
+use Rattle.hc_scope.specs.Expansion.{Outcome, Yields, Refuses, Expansion, and_then, made, ◌>>=◌, pure}
 use Rattle.hc_expand.specs.Forms.{parts_read}
-use Rattle.hc_expand.specs.Items.{pin_read, body_read, items_in, item_node, nothing_made, HasPorts, AnswersCore}
-use Rattle.hc_expand.specs.Nodes.{nodes}
-use Rattle.hc_expand.specs.Parts.{Context, Parts}
-use Rattle.hc_expand.specs.Plain.{IsPlainItem}
-use Rattle.hc_expand.specs.Reading.{Answers, scope_in, scope_of, context_of}
-use Rattle.hc_expand.specs.Scope.{Scope, opened, outside}
-use Rattle.hc_expand.specs.Sound.{Grows}
-use Rattle.hc_expand.specs.Statement.{in_order}
-use Rattle.hc_expand.specs.Table.{Entries}
-use Rattle.hc_expand.specs.declared.items.Roots.{Roots}
-use Rattle.hc_expand.specs.declared.scope.Scope as code
-use Rattle.hc_expand.specs.declared.scope.Scope.TheVariants as chain
-use Rattle.hc_expand.specs.declared.state.State.{State}
+use Rattle.hc_declare.specs.Items.{pin_read, body_read, items_in, nothing_made, HasPorts, AnswersCore}
+use Rattle.hc_scope.specs.Nodes.{nodes}
+use Rattle.hc_scope.specs.Parts.{Context}
+use Rattle.hc_scope.specs.Reading.{Answers, scope_in, scope_of, context_of}
+use Rattle.hc_scope.specs.Scope.{Scope, opened, outside}
+use Rattle.hc_scope.specs.Sound.{Grows}
+use Rattle.hc_scope.specs.Statement.{in_order}
+use Rattle.hc_scope.specs.Table.{Entries}
+use Rattle.hc_declare.specs.declared.items.Roots.{Roots}
+use Rattle.hc_scope.specs.declared.scope.Scope as code
+use Rattle.hc_scope.specs.declared.scope.Scope.TheVariants as chain
+use Rattle.hc_scope.specs.declared.state.State.{State}
 use Rattle.hc_expand.proofs.Counted.{few_of_core}
 use Rattle.hc_expand.proofs.OneCore.{one_core}
 
@@ -100,19 +98,6 @@ pub whole_stops : (all : List Item) (objects : List Object) (es : Entries) (read
     → Answers read (items (nodes 2000) (items_in es chain.Outside no_roots) all (at_first objects)) (Err e) t → AnswersCore (whole all nothing_made) (Err e)
 whole_stops all objects es read (Refused r) t none no_names is = ap (λ o. and_then o rest_of) (starts all objects es none no_names ∙ is)
 whole_stops all objects es read NoMemory t none no_names is = tt
-
--- one more item
-pub items_step : (p : Parts) (all list : List Item) (x : Item) (i j k : Items) (s t u : State) → items p i all s ≡ items p j list t → list ≡ x ∷ drop 1 list
-    → item_node p j x t ≡ Yields k u → items p i all s ≡ items p k (take (length list - 1) (drop 1 list)) u
-items_step p all list x i j k s t u is apart step =
-    is ∙ ap (λ (l : List Item). items p j l t) apart ∙ ap (λ o. and_then o (λ (m : Items). items p m (drop 1 list))) step
-    ∙ ap (λ (l : List Item). items p k l u) (sym (take_rest list 1))
-
-pub first_plain : (list : List Item) (x : Item) → list ≡ x ∷ drop 1 list → All IsPlainItem list → IsPlainItem x
-first_plain list x apart plain = All-head IsPlainItem x (drop 1 list) (subst (All IsPlainItem) apart plain)
-
-pub rest_plain : (list : List Item) (x : Item) → list ≡ x ∷ drop 1 list → All IsPlainItem list → All IsPlainItem (take (length list - 1) (drop 1 list))
-rest_plain list x apart plain = subst (All IsPlainItem) (sym (take_rest list 1)) (All-rest IsPlainItem x (drop 1 list) list apart plain)
 
 -- ---- the core of a tree
 

@@ -11,13 +11,13 @@ use Rattle.hc_core.specs.Parts.{kind_parts, statement_parts, parts_of}
 use Rattle.hc_core.specs.Typed.{kinds_of}
 use Rattle.hc_core.specs.declared.object.Core.{Core}
 use Rattle.hc_core.specs.declared.object.Object.{Object}
-use Rattle.hc_expand.specs.declared.state.State.{State}
-use Rattle.hc_expand.specs.Scope.{outside, opened}
-use Rattle.hc_expand.specs.Expansion.{Yields, Expansion, ◌>>=◌, pure, made}
-use Rattle.hc_expand.specs.Parts.{Context, Parts, ident_of}
-use Rattle.hc_expand.specs.Statement.{in_order}
-use Rattle.hc_expand.specs.Nodes.{deepest, node, nodes}
-use Rattle.hc_expand.specs.Expands.{Items, in_context, with_clock, with_main, item_form, item_place, items, Program, program_of, main_of, whole, is_clock, is_main, checked, expansion, Expands}
+use Rattle.hc_scope.specs.declared.state.State.{State}
+use Rattle.hc_scope.specs.Scope.{outside, opened}
+use Rattle.hc_scope.specs.Expansion.{Yields, Expansion, ◌>>=◌, pure, made}
+use Rattle.hc_scope.specs.Parts.{Context, Parts, ident_of}
+use Rattle.hc_scope.specs.Statement.{in_order}
+use Rattle.hc_scope.specs.Nodes.{deepest, node, nodes}
+use Rattle.hc_scope.specs.Expands.{Items, in_context, with_clock, with_main, item_form, item_place, items, Program, program_of, main_of, whole, is_clock, is_main, checked, expansion, Expands}
 use Rattle.hc_expand.proofs.CountedSteps.{Counts, made_parts, none, after, maps, with_more, gives, refuses, visits, visits_only}
 use Rattle.hc_expand.proofs.CountedParts.{sequence_parts, block_size, Ends, ends_after, ends_refused, Paid}
 use Rattle.hc_expand.proofs.CountedExpressions.{expression_paid, before_index_paid}

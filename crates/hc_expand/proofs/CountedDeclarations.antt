@@ -24,9 +24,9 @@ use Rattle.hc_width.specs.Operand.{Operand, Whole, Of}
 use Rattle.hc_width.specs.Judged.{Gives, equal_signs}
 use Rattle.hc_width.specs.Unary.{fitted}
 use Rattle.hc_width.proofs.Steps.{widths_give, signs_give}
-use Rattle.hc_expand.specs.Written.{written}
-use Rattle.hc_expand.specs.Parts.{Context, TypeOf, Parts, DeclaredName, a_register, an_array, a_ram, a_rom, a_signal, a_channel, place_of}
-use Rattle.hc_expand.specs.Declaration.{fresh, initial, initial_or_zero, initial_list, length_of, taken, Elements, elements, few_bits, few_words, words, kind_of, few_elements, object, object_form, name_form, names, typed_names, unboxed, var_name, mem_name, declaration, pins_listed, pins_by, data_entry, data_entries, pins_of, port_object, input, fresh_input, bus_in, output, bus_out, interface_form}
+use Rattle.hc_scope.specs.Written.{written}
+use Rattle.hc_scope.specs.Parts.{Context, TypeOf, Parts, DeclaredName, a_register, an_array, a_ram, a_rom, a_signal, a_channel, place_of}
+use Rattle.hc_scope.specs.Declaration.{fresh, initial, initial_or_zero, initial_list, length_of, taken, Elements, elements, few_bits, few_words, words, kind_of, few_elements, object, object_form, name_form, names, typed_names, unboxed, var_name, mem_name, declaration, pins_listed, pins_by, data_entry, data_entries, pins_of, port_object, input, fresh_input, bus_in, output, bus_out, interface_form}
 use Rattle.hc_expand.proofs.WrittenStatement.{read_expression}
 use Rattle.hc_expand.proofs.CountedSteps.{Counts, none, after, after_few, maps, with_more, smaller, gives, refuses, knows, judges, unless_few, either, makes, each_few}
 use Rattle.hc_expand.proofs.CountedWidths.{operand_parts}

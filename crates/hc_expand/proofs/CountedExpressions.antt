@@ -15,10 +15,10 @@ use Rattle.hc_core.specs.declared.object.Kind.TheVariants as kind
 use Rattle.hc_width.specs.Whole.{holds}
 use Rattle.hc_width.specs.Operand.{Operand, Whole, Of}
 use Rattle.hc_width.specs.Judged.{Judged}
-use Rattle.hc_expand.specs.Expansion.{judged}
-use Rattle.hc_expand.specs.Scope.{Meaning, an_object, an_interface, a_number, an_expression, a_procedure, an_argument, Scope, Found, find, Layer}
-use Rattle.hc_expand.specs.Parts.{Context, within, Shown, a_value, a_memory, Parts, place_of}
-use Rattle.hc_expand.specs.Expression.{needs_constant, constant, width_by, width_of, width_in_range, type_layer, type_of, size_expression, kind_value, object_value, differ_from, call_context, call_expression, value_by, value_found, name_value, called_by, called_found, call, kind_port, port_by, port_found, port_value, kind_length, index_by, index, is_array, is_memory, unary_of, binary_of, memory_part, word_of, bit_of, index_of, object_shown, shown_by, shown_found, name_shown, measured, expression_layer, expression_form, before_index_layer, before_index_form}
+use Rattle.hc_scope.specs.Expansion.{judged}
+use Rattle.hc_scope.specs.Scope.{Meaning, an_object, an_interface, a_number, an_expression, a_procedure, an_argument, Scope, Found, find, Layer}
+use Rattle.hc_scope.specs.Parts.{Context, within, Shown, a_value, a_memory, Parts, place_of}
+use Rattle.hc_scope.specs.Expression.{needs_constant, constant, width_by, width_of, width_in_range, type_layer, type_of, size_expression, kind_value, object_value, differ_from, call_context, call_expression, value_by, value_found, name_value, called_by, called_found, call, kind_port, port_by, port_found, port_value, kind_length, index_by, index, is_array, is_memory, unary_of, binary_of, memory_part, word_of, bit_of, index_of, object_shown, shown_by, shown_found, name_shown, measured, expression_layer, expression_form, before_index_layer, before_index_form}
 use Rattle.hc_expand.proofs.CountedSteps.{Counts, none, after, after_few, maps, with_more, gives, refuses, knows, judges, unless_few, either}
 use Rattle.hc_expand.proofs.CountedParts.{value_size, one, shown_parts, Paid}
 use Rattle.hc_expand.proofs.CountedWidths.{operand_parts, Few, unary_few, cast_few, binary_few, cut_few, choose_few}

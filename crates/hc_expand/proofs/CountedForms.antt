@@ -23,10 +23,10 @@ use Rattle.hc_core.specs.Typed.{width_of, sign_of}
 use Rattle.hc_width.specs.Whole.{holds}
 use Rattle.hc_width.specs.Operand.{Operand, Whole, Of}
 use Rattle.hc_width.specs.Parts as width
-use Rattle.hc_expand.specs.Scope.{Meaning, a_procedure, Scope, opened, Found, find}
-use Rattle.hc_expand.specs.Expansion.{Expansion, ◌>>=◌, pure, each}
-use Rattle.hc_expand.specs.Parts.{Context, TypeOf, within, Parts, place_of}
-use Rattle.hc_expand.specs.Statement.{in_order, ordered, sent, received, Channel, channel, macro_layer, macro_form, macro_place, local_layer, locals, block_form, run_by, run_found, run, statement_or_skip, simple_or_skip, condition_or_one, needs_type, labels, has_default, arm_form, arms_of, switch, offered, case_form, other_form, cases_of, prialt, StmtLayer, statement_layer, statement_form}
+use Rattle.hc_scope.specs.Scope.{Meaning, a_procedure, Scope, opened, Found, find}
+use Rattle.hc_scope.specs.Expansion.{Expansion, ◌>>=◌, pure, each}
+use Rattle.hc_scope.specs.Parts.{Context, TypeOf, within, Parts, place_of}
+use Rattle.hc_scope.specs.Statement.{in_order, ordered, sent, received, Channel, channel, macro_layer, macro_form, macro_place, local_layer, locals, block_form, run_by, run_found, run, statement_or_skip, simple_or_skip, condition_or_one, needs_type, labels, has_default, arm_form, arms_of, switch, offered, case_form, other_form, cases_of, prialt, StmtLayer, statement_layer, statement_form}
 use Rattle.hc_expand.proofs.CountedSteps.{Counts, none, after, after_few, maps, with_more, gives, refuses, knows, either, each_few}
 use Rattle.hc_expand.proofs.CountedWidths.{operand_parts, condition_few}
 use Rattle.hc_expand.proofs.CountedParts.{sequence_parts, arm_size, case_size, Adds, Ends, ends_after, ends_mapped, ends_given, after_mapped, after_known, Paid}

@@ -14,10 +14,10 @@ use Rattle.hc_tree.specs.declared.stmt.Other.{Other}
 use Rattle.hc_core.specs.Program.{Statement, Cases, no_case}
 use Rattle.hc_core.specs.Parts.{statement_parts, all_parts, cases_parts}
 use Rattle.hc_width.specs.Operand.{Operand}
-use Rattle.hc_expand.specs.declared.state.State.{State}
-use Rattle.hc_expand.specs.Expansion.{Expansion, Yields, ◌>>=◌, ◌<$>◌, pure, refuse}
-use Rattle.hc_expand.specs.Parts.{Context, TypeOf, DeclaredName, Shown, a_value, a_memory, ArmParts, Parts}
-use Rattle.hc_expand.specs.Statement.{in_order}
+use Rattle.hc_scope.specs.declared.state.State.{State}
+use Rattle.hc_scope.specs.Expansion.{Expansion, Yields, ◌>>=◌, ◌<$>◌, pure, refuse}
+use Rattle.hc_scope.specs.Parts.{Context, TypeOf, DeclaredName, Shown, a_value, a_memory, ArmParts, Parts}
+use Rattle.hc_scope.specs.Statement.{in_order}
 use Rattle.hc_expand.proofs.CountedSteps.{Counts, none, goes_through}
 use Rattle.hc_expand.proofs.CountedWidths.{operand_parts}
 

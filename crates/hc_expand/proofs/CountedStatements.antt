@@ -21,10 +21,10 @@ use Rattle.hc_width.specs.Operand.{Operand, Whole, Of}
 use Rattle.hc_width.specs.Judged.{Gives, equal_signs}
 use Rattle.hc_width.specs.Binary.{binary}
 use Rattle.hc_width.proofs.Steps.{widths_give, signs_give}
-use Rattle.hc_expand.specs.Scope.{Meaning, an_object, Scope, opened, declared, a_number, Named, missing, no_name, named, name_in}
-use Rattle.hc_expand.specs.Expansion.{Expansion}
-use Rattle.hc_expand.specs.Parts.{Context, TypeOf, Parts, within}
-use Rattle.hc_expand.specs.Statement.{in_order, IndexAt, Destination, a_register, a_signal, an_element, a_word, TypedDestination, destination_of, destination_by, destination_index, destination_named, own_index, destination, index_at, target_of, value_of, operator, step_operator, new_value, assignment_to, assignment, simple_form, writes_variable, stepped, next_number, step_form, turned, turn_where, turn, turns_behind, turns, ordered, channel_kind, channel_by, channel_named, channel, kept, sent, received, send, receive}
+use Rattle.hc_scope.specs.Scope.{Meaning, an_object, Scope, opened, declared, a_number, Named, missing, no_name, named, name_in}
+use Rattle.hc_scope.specs.Expansion.{Expansion}
+use Rattle.hc_scope.specs.Parts.{Context, TypeOf, Parts, within}
+use Rattle.hc_scope.specs.Statement.{in_order, IndexAt, Destination, a_register, a_signal, an_element, a_word, TypedDestination, destination_of, destination_by, destination_index, destination_named, own_index, destination, index_at, target_of, value_of, operator, step_operator, new_value, assignment_to, assignment, simple_form, writes_variable, stepped, next_number, step_form, turned, turn_where, turn, turns_behind, turns, ordered, channel_kind, channel_by, channel_named, channel, kept, sent, received, send, receive}
 use Rattle.hc_expand.proofs.CountedSteps.{Counts, none, after, after_few, maps, with_more, smaller, gives, refuses, knows, judges, either}
 use Rattle.hc_expand.proofs.CountedWidths.{operand_parts, binary_few}
 use Rattle.hc_expand.proofs.CountedParts.{sequence_parts, Paid}

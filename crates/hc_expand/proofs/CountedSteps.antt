@@ -14,8 +14,8 @@ use Rattle.hc_core.specs.Parts.{kind_parts}
 use Rattle.hc_core.specs.declared.object.Kind.{Kind}
 use Rattle.hc_core.specs.declared.object.Object.{Object}
 use Rattle.hc_width.specs.Judged.{Judged, Gives, Breaks}
-use Rattle.hc_expand.specs.declared.state.State.{State}
-use Rattle.hc_expand.specs.Expansion.{Outcome, Yields, Refuses, Expansion, and_then, ◌>>=◌, ◌>>◌, ◌<$>◌, pure, refuse, unless_broken, kinds, judged, each, visit, make}
+use Rattle.hc_scope.specs.declared.state.State.{State}
+use Rattle.hc_scope.specs.Expansion.{Outcome, Yields, Refuses, Expansion, and_then, ◌>>=◌, ◌>>◌, ◌<$>◌, pure, refuse, unless_broken, kinds, judged, each, visit, make}
 
 -- the parts of the objects made so far
 abbrev pub made_parts : State → ℕ

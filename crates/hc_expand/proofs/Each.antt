@@ -3,9 +3,9 @@ use Rattle.std.proofs.Common.{◌≡◌, ◌-◌, List, [], ◌∷◌, ◌++◌,
 use Rattle.std.proofs.lemmas.List.{map-append, take_rest}
 use Rattle.hc_tree.specs.declared.refusal.FrontErr.{FrontErr}
 use Rattle.hc_tree.specs.declared.refusal.FrontErr.TheVariants.{Refused, NoMemory}
-use Rattle.hc_expand.specs.declared.state.State.{State}
-use Rattle.hc_expand.specs.Expansion.{Outcome, Yields, Refuses, Expansion, and_then, pure, each}
-use Rattle.hc_expand.specs.Reading.{Answers}
+use Rattle.hc_scope.specs.declared.state.State.{State}
+use Rattle.hc_scope.specs.Expansion.{Outcome, Yields, Refuses, Expansion, and_then, pure, each}
+use Rattle.hc_scope.specs.Reading.{Answers}
 
 -- some items gave these values, and the rest follows
 pub record Along {A B : Type 0} (f : A → Expansion B) (all : List A) (s : State) (done : List B) (rest : List A) (t : State) : Type 0 where

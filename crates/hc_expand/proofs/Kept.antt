@@ -5,8 +5,8 @@ use Rattle.hc_core.specs.Typed.{kinds_of, HasSomeType}
 use Rattle.hc_core.specs.Sound.{IsTarget, Fits, Sends, Receives, IsTyped, AllTyped, CasesTyped, ArmsTyped}
 use Rattle.hc_core.specs.declared.object.Kind.{Kind}
 use Rattle.hc_core.specs.declared.object.Object.{Object}
-use Rattle.hc_expand.specs.Sound.{Grows}
-use Rattle.hc_expand.proofs.Longer.{kept_kind, kinds_behind, longer_typed}
+use Rattle.hc_scope.specs.Sound.{Grows}
+use Rattle.hc_scope.proofs.Longer.{kept_kind, kinds_behind, longer_typed}
 
 pub longer_some_type : (kinds more : List Kind) (e : Expression) → HasSomeType kinds e → HasSomeType (kinds ++ more) e
 longer_some_type kinds more e (w, s, t) = (w, s, longer_typed kinds more e w s t)

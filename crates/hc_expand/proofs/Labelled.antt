@@ -9,15 +9,15 @@ use Rattle.hc_tree.specs.declared.stmt.Label.TheVariants as label
 use Rattle.hc_tree.specs.declared.refusal.Refusal.{Refusal}
 use Rattle.hc_tree.specs.declared.refusal.FrontErr.{FrontErr}
 use Rattle.hc_tree.specs.declared.refusal.FrontErr.TheVariants.{Refused, NoMemory}
-use Rattle.hc_expand.specs.declared.state.State.{State}
-use Rattle.hc_expand.specs.Declaration.{initial}
-use Rattle.hc_expand.specs.Expansion.{Outcome, Yields, Refuses, and_then, pure}
-use Rattle.hc_expand.specs.Labelled.{labels_behind}
-use Rattle.hc_expand.specs.Lists.{Continues}
-use Rattle.hc_expand.specs.Parts.{Parts, Context, TypeOf}
-use Rattle.hc_expand.specs.Reading.{Answers}
-use Rattle.hc_expand.specs.Statement.{labels}
-use Rattle.hc_expand.proofs.Lists.{nothing_before, one_more}
+use Rattle.hc_scope.specs.declared.state.State.{State}
+use Rattle.hc_scope.specs.Declaration.{initial}
+use Rattle.hc_scope.specs.Expansion.{Outcome, Yields, Refuses, and_then, pure}
+use Rattle.hc_scope.specs.Labelled.{labels_behind}
+use Rattle.hc_scope.specs.Lists.{Continues}
+use Rattle.hc_scope.specs.Parts.{Parts, Context, TypeOf}
+use Rattle.hc_scope.specs.Reading.{Answers}
+use Rattle.hc_scope.specs.Statement.{labels}
+use Rattle.hc_evaluate.proofs.Lists.{nothing_before, one_more}
 
 -- behind nothing stand all labels
 pub labels_none : (p : Parts) (c : Context) (t : TypeOf) (all : List Label) (s : State) → labels_behind p c t [] all s ≡ labels p c t all s

@@ -10,8 +10,8 @@ use Rattle.hc_core.specs.Read.{statement, statements}
 use Rattle.hc_core.specs.Sound.{IsTyped, AllTyped}
 use Rattle.hc_core.specs.Typed.{kinds_of}
 use Rattle.hc_core.proofs.Read.{read_Seq, read_Par}
-use Rattle.hc_expand.specs.Sound.{Grows}
-use Rattle.hc_expand.specs.Statement.{in_order}
+use Rattle.hc_scope.specs.Sound.{Grows}
+use Rattle.hc_scope.specs.Statement.{in_order}
 use Rattle.hc_expand.specs.Forms.{parts_read}
 use Rattle.hc_expand.proofs.Kept.{grown_statements}
 

@@ -12,15 +12,15 @@ use Rattle.hc_core.specs.declared.object.Object.{Object}
 use Rattle.hc_core.specs.declared.stmt.Stmt.{Stmt}
 use Rattle.hc_core.specs.declared.stmt.Stmt.TheVariants as s
 use Rattle.hc_core.proofs.Read.{read_Seq}
-use Rattle.hc_expand.specs.Expansion.{Outcome, Yields, and_then, pure}
+use Rattle.hc_scope.specs.Expansion.{Outcome, Yields, and_then, pure}
 use Rattle.hc_expand.specs.Forms.{IsMade, for_made, Both, AreBothTyped, Loop, IsLoopTyped, loop_read}
 use Rattle.hc_expand.specs.declared.looping.LoopParts.{LoopParts}
-use Rattle.hc_expand.specs.Reading.{Answers}
-use Rattle.hc_expand.specs.Sound.{Grows}
-use Rattle.hc_expand.specs.declared.state.State.{State}
+use Rattle.hc_scope.specs.Reading.{Answers}
+use Rattle.hc_scope.specs.Sound.{Grows}
+use Rattle.hc_scope.specs.declared.state.State.{State}
 use Rattle.hc_expand.proofs.Kept.{grown_some_type, grown_statement}
-use Rattle.hc_expand.proofs.Longer.{grows_on}
-use Rattle.hc_expand.proofs.Steps.{err_then, value_then}
+use Rattle.hc_scope.proofs.Longer.{grows_on}
+use Rattle.hc_evaluate.proofs.Steps.{err_then, value_then}
 
 pub made_answers : (x : Statement) (r : Result Stmt FrontErr) (s : State) → IsMade x r → Answers statement (Yields x s) r s
 made_answers x (Ok a) s is = ap (λ y. Yields y s) (sym is)

@@ -3,8 +3,8 @@ use Rattle.std.proofs.Common.{◌≡◌, refl, sym, ap, ◌∙◌, ◌⊎◌, in
 use Rattle.hc_tree.specs.declared.refusal.Refusal.{Refusal}
 use Rattle.hc_tree.specs.declared.item.Tree.{Tree}
 use Rattle.hc_core.specs.declared.object.Core.{Core}
-use Rattle.hc_expand.specs.Expansion.{Outcome, Yields, Refuses}
-use Rattle.hc_expand.specs.Expands.{Program, program_of, expansion, Expands, Stops}
+use Rattle.hc_scope.specs.Expansion.{Outcome, Yields, Refuses}
+use Rattle.hc_scope.specs.Expands.{Program, program_of, expansion, Expands, Stops}
 use Rattle.hc_expand.proofs.WrittenStatement.{written_statement, read_statement, statement_written}
 
 -- the core of a program

@@ -26,7 +26,7 @@ use Rattle.hc_grammar.specs.Statement.{begins_decl}
 use Rattle.hc_grammar.specs.Item.{program_rule, items_rule, item_rule, set_tail_rule, interface_tail_rule}
 use Rattle.hc_grammar.specs.Grammar.{grammar, rule}
 use Rattle.hc_core.specs.Sound.{HasLabelBytes, is_label_byte}
-use Rattle.hc_expand.specs.Plain.{IsPlainValue, ArePlain, IsPlain, IsPlainInterface, IsPlainItem}
+use Rattle.hc_scope.specs.Plain.{IsPlainValue, ArePlain, IsPlain, IsPlainInterface, IsPlainItem}
 use Rattle.hc_expand.specs.Spelled.{IsSpelled}
 
 -- ---- tokens

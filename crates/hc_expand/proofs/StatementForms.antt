@@ -8,10 +8,10 @@ use Rattle.hc_tree.specs.declared.stmt.Stmt.TheVariants as stmt
 use Rattle.hc_core.specs.Read.{statement}
 use Rattle.hc_core.specs.declared.stmt.Stmt.TheVariants.{Delay}
 use Rattle.hc_core.proofs.Read.{read_Delay}
-use Rattle.hc_expand.specs.declared.state.State.{State}
-use Rattle.hc_expand.specs.Expansion.{Yields}
-use Rattle.hc_expand.specs.Parts.{Context, Parts}
-use Rattle.hc_expand.specs.Statement.{statement_form}
+use Rattle.hc_scope.specs.declared.state.State.{State}
+use Rattle.hc_scope.specs.Expansion.{Yields}
+use Rattle.hc_scope.specs.Parts.{Context, Parts}
+use Rattle.hc_scope.specs.Statement.{statement_form}
 
 delay_itself : (p : Parts) (c : Context) (place : Place) (s : State) → statement_form p c (stmt.Delay place) s ≡ Yields (statement (Delay place)) s
 unfolding statement_form out-Stmt out shown hidden

@@ -1,26 +1,20 @@
 -- Nodes that statements have, by the room around them.
-use Rattle.std.proofs.Common.{◌≡◌, ◌≤◌, ℕ, suc, zero, ◌-◌, false, refl, ap, arith, Result}
+use Rattle.std.proofs.Common.{◌≡◌, ◌≤◌, ℕ, suc, zero, ◌-◌, false, ap, arith, Result}
 use denote.Ref.{Bor, MutBor}
 use Rattle.std.specs.declared.alloc.Global.{Global}
 use Rattle.hc_core.specs.declared.stmt.Stmt.{Stmt}
-use Rattle.hc_tree.specs.declared.place.Place.{Place}
 use Rattle.hc_tree.specs.declared.refusal.FrontErr.{FrontErr}
 use Rattle.hc_tree.specs.declared.stmt.Block.{Block, out-Block}
 use Rattle.hc_tree.specs.declared.stmt.Simple.{Simple}
 use Rattle.hc_tree.specs.declared.stmt.Stmt as tree
-use Rattle.hc_expand.specs.declared.scope.Scope.{Scope}
-use Rattle.hc_expand.specs.declared.state.State.{State}
-use Rattle.hc_expand.specs.Expansion.{and_then, visit, entered}
-use Rattle.hc_expand.specs.Nodes.{nodes}
-use Rattle.hc_expand.specs.Parts.{Context, simple_place}
+use Rattle.hc_scope.specs.declared.scope.Scope.{Scope}
+use Rattle.hc_scope.specs.declared.state.State.{State}
+use Rattle.hc_scope.specs.Expansion.{and_then, visit, entered}
+use Rattle.hc_scope.specs.Nodes.{nodes}
+use Rattle.hc_scope.specs.Parts.{Context, simple_place}
 use Rattle.hc_expand.specs.Runs.{Runs}
-use Rattle.hc_expand.specs.Statement.{statement_form, simple_form, block_form, stmt_place, is_run}
-use Rattle.hc_expand.proofs.Depth.{refused_then, one_less}
-
-pub leaf_is : (room : ℕ) (c : Context) (place : Place) (s : State) → (nodes room).leaf c place s ≡ entered room false c.calls place s
-unfolding nodes
-leaf_is zero c place s = refl
-leaf_is (suc room) c place s = refl
+use Rattle.hc_scope.specs.Statement.{statement_form, simple_form, block_form, stmt_place, is_run}
+use Rattle.hc_evaluate.proofs.Depth.{refused_then, one_less}
 
 pub block_is : (room : ℕ) (c : Context) (b : Block) (s : State)
     → (nodes room).block c b s ≡ and_then (entered room false c.calls (out-Block b).place s) (λ u. block_form (nodes (room - 1)) c b)

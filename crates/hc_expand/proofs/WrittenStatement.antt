@@ -11,8 +11,8 @@ use Rattle.hc_core.specs.declared.stmt.Stmt.{Stmt}
 use Rattle.hc_core.specs.declared.stmt.Stmt.TheVariants as s
 use Rattle.hc_core.specs.declared.stmt.Case.TheVariants as c
 use Rattle.hc_core.specs.declared.stmt.Case.TheBlock as sb
-use Rattle.hc_expand.specs.Written.{written}
-use Rattle.hc_expand.proofs.Written.{written_expression}
+use Rattle.hc_scope.specs.Written.{written}
+use Rattle.hc_declare.proofs.Written.{written_expression}
 
 -- ---- what is written
 

@@ -7,7 +7,7 @@ use Rattle.hc_core.specs.declared.object.Kind.{Kind}
 use Rattle.hc_core.specs.declared.stmt.Arm.{Arm}
 use Rattle.hc_core.specs.declared.stmt.Case.{Case}
 use Rattle.hc_core.specs.declared.stmt.Case.TheVariants as c
-use Rattle.hc_expand.specs.Parts.{ArmParts}
+use Rattle.hc_scope.specs.Parts.{ArmParts}
 use Rattle.hc_expand.specs.declared.cases.Offered.{Offered}
 use Rattle.hc_expand.specs.declared.cases.Offered.TheVariants as o
 use Rattle.hc_expand.specs.declared.turns.Turned.{Turned}

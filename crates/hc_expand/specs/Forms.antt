@@ -12,11 +12,11 @@ use Rattle.hc_core.specs.Sound.{IsTyped}
 use Rattle.hc_core.specs.Typed.{HasSomeType}
 use Rattle.hc_core.specs.declared.object.Kind.{Kind}
 use Rattle.hc_core.specs.declared.stmt.Stmt.{Stmt}
-use Rattle.hc_expand.specs.Expansion.{Expansion, ◌>>=◌, pure}
-use Rattle.hc_expand.specs.Parts.{Parts, Context}
+use Rattle.hc_scope.specs.Expansion.{Expansion, ◌>>=◌, pure}
+use Rattle.hc_scope.specs.Parts.{Parts, Context}
 use Rattle.hc_expand.specs.declared.branching.IfParts.{IfParts}
 use Rattle.hc_expand.specs.declared.looping.LoopParts.{LoopParts}
-use Rattle.hc_expand.specs.Statement.{statement_or_skip, simple_or_skip, condition_or_one}
+use Rattle.hc_scope.specs.Statement.{statement_or_skip, simple_or_skip, condition_or_one}
 
 -- statements in order
 abbrev pub parts_read : List Stmt → List Statement

@@ -8,11 +8,11 @@ use Rattle.hc_core.specs.declared.stmt.Stmt.{Stmt}
 use Rattle.hc_core.specs.Read.{statement}
 use Rattle.hc_core.specs.Sound.{IsTyped}
 use Rattle.hc_core.specs.Typed.{kinds_of}
-use Rattle.hc_expand.specs.declared.scope.Scope.{Scope}
-use Rattle.hc_expand.specs.declared.state.State.{State}
-use Rattle.hc_expand.specs.Nodes.{nodes}
-use Rattle.hc_expand.specs.Reading.{context_of, Answers}
-use Rattle.hc_expand.specs.Sound.{AreSound, Grows}
+use Rattle.hc_scope.specs.declared.scope.Scope.{Scope}
+use Rattle.hc_scope.specs.declared.state.State.{State}
+use Rattle.hc_scope.specs.Nodes.{nodes}
+use Rattle.hc_scope.specs.Reading.{context_of, Answers}
+use Rattle.hc_scope.specs.Sound.{AreSound, Grows}
 
 -- statements around which at most so many more nodes may be open
 pub record Runs (room : ℕ) (pre : Global → MutBor State → Bor Scope → ℕ → ℕ → Bor tree.Stmt → Type 0)

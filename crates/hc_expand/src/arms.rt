@@ -2,21 +2,18 @@ ghost use Rattle.std.specs.Prelude.{IfOk, OnOk, map};
 ghost use Rattle.hc_core.specs.Read.{arms};
 ghost use Rattle.hc_core.specs.Sound.{ArmsTyped, IsWidth};
 ghost use Rattle.hc_core.specs.Typed.{kinds_of};
-ghost use Rattle.hc_expand.specs.Expansion.{each};
+ghost use Rattle.hc_scope.specs.Expansion.{each};
 ghost use Rattle.hc_expand.specs.Branches.{arm_read, IsArm};
-ghost use Rattle.hc_expand.specs.Nodes.{nodes};
-ghost use Rattle.hc_expand.specs.Reading.{context_of, Answers};
+ghost use Rattle.hc_scope.specs.Nodes.{nodes};
+ghost use Rattle.hc_scope.specs.Reading.{context_of, Answers};
 ghost use Rattle.hc_expand.specs.Runs.{Runs};
-ghost use Rattle.hc_expand.specs.Sound.{AreSound, Grows};
-ghost use Rattle.hc_expand.specs.Statement as spec;
+ghost use Rattle.hc_scope.specs.Sound.{AreSound, Grows};
+ghost use Rattle.hc_scope.specs.Statement as spec;
 
-use crate::scope::Scope;
-use crate::state::State;
 use crate::statements::Statements;
 use crate::switch::{has_default, label_numbers};
-use crate::value_type::ValueType;
-use crate::visit::enter;
 use hc_core::{Arm, Arms, Stmt};
+use hc_scope::{Scope, State, ValueType, enter};
 use hc_tree as tree;
 use hc_tree::FrontErr;
 use sqlite_items::Items;
@@ -34,7 +31,7 @@ impl<
         ) -> Result<Stmt, FrontErr>,
 > Statements<F> {
     // The arms of a `switch` one after another, by the type of the selector.
-    #[tactic(auto, using(crate::proofs::Each::along_start, crate::proofs::Each::along_more, crate::proofs::Each::along_err, crate::proofs::Each::along_end, crate::proofs::Longer::grows_not, crate::proofs::Longer::grows_on, crate::proofs::Branches::no_arms))]
+    #[tactic(auto, using(crate::proofs::Each::along_start, crate::proofs::Each::along_more, crate::proofs::Each::along_err, crate::proofs::Each::along_end, hc_scope::proofs::Longer::grows_not, hc_scope::proofs::Longer::grows_on, crate::proofs::Branches::no_arms))]
     pub(crate) fn arms<'s, 't>(
         &self,
         state: &mut State,
@@ -66,7 +63,7 @@ impl<
     }
 
     // An arm, as a node.
-    #[tactic(auto, using(crate::proofs::PartNodes::arm_is, crate::proofs::StatementNodes::runs_inside))]
+    #[tactic(auto, using(hc_evaluate::proofs::PartNodes::arm_is, crate::proofs::StatementNodes::runs_inside))]
     fn arm<'s, 't>(
         &self,
         state: &mut State,
@@ -89,7 +86,7 @@ impl<
     }
 
     // An arm by its parts: the numbers of its labels, and the sequence of its statements.
-    #[tactic(auto, using(crate::proofs::Steps::err_then, crate::proofs::Steps::value_then, crate::proofs::Listed::read_sequence, crate::proofs::Branches::sequence_typed), unfolding(crate::specs::Statement::arm_form))]
+    #[tactic(auto, using(hc_evaluate::proofs::Steps::err_then, hc_evaluate::proofs::Steps::value_then, crate::proofs::Listed::read_sequence, crate::proofs::Branches::sequence_typed), unfolding(hc_scope::specs::Statement::arm_form))]
     fn arm_form<'s, 't>(
         &self,
         state: &mut State,

@@ -3,19 +3,16 @@ ghost use Rattle.hc_core.specs.Read.{statements};
 ghost use Rattle.hc_core.specs.Sound.{AllTyped};
 ghost use Rattle.hc_core.specs.Typed.{kinds_of};
 ghost use Rattle.hc_expand.specs.Forms.{parts_read};
-ghost use Rattle.hc_expand.specs.Nodes.{nodes};
-ghost use Rattle.hc_expand.specs.Reading.{context_of, Answers};
+ghost use Rattle.hc_scope.specs.Nodes.{nodes};
+ghost use Rattle.hc_scope.specs.Reading.{context_of, Answers};
 ghost use Rattle.hc_expand.specs.Runs.{Runs};
-ghost use Rattle.hc_expand.specs.Sound.{AreSound, Grows};
-ghost use Rattle.hc_expand.specs.Statement as spec;
+ghost use Rattle.hc_scope.specs.Sound.{AreSound, Grows};
+ghost use Rattle.hc_scope.specs.Statement as spec;
 
-use crate::locals::locals;
-use crate::names::all_of;
-use crate::scope::Scope;
-use crate::state::State;
 use crate::statements::Statements;
-use crate::visit::enter;
 use hc_core::{Stmt, Stmts};
+use hc_declare::locals;
+use hc_scope::{Scope, State, all_of, enter};
 use hc_tree as tree;
 use hc_tree::{Block, FrontErr};
 use indexmap::IndexMap;
@@ -54,7 +51,7 @@ impl<
     }
 
     // The statements of a block, which is a scope.
-    #[tactic(auto, using(crate::proofs::Steps::err_then, crate::proofs::Steps::value_then, crate::proofs::Longer::grows_on), unfolding(crate::specs::Statement::block_form))]
+    #[tactic(auto, using(hc_evaluate::proofs::Steps::err_then, hc_evaluate::proofs::Steps::value_then, hc_scope::proofs::Longer::grows_on), unfolding(hc_scope::specs::Statement::block_form))]
     pub(crate) fn block_form<'s, 't>(
         &self,
         state: &mut State,

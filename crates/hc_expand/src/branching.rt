@@ -4,21 +4,20 @@ ghost use Rattle.hc_core.specs.Read.{expression, statement};
 ghost use Rattle.hc_core.specs.Sound.{IsTyped};
 ghost use Rattle.hc_core.specs.Typed.{HasSomeType, kinds_of};
 ghost use Rattle.hc_expand.specs.Forms.{IsMade, AreBothTyped, both, both_read, if_branches};
-ghost use Rattle.hc_expand.specs.Nodes.{nodes};
-ghost use Rattle.hc_expand.specs.Reading.{context_of, Answers};
+ghost use Rattle.hc_scope.specs.Nodes.{nodes};
+ghost use Rattle.hc_scope.specs.Reading.{context_of, Answers};
 ghost use Rattle.hc_expand.specs.Runs.{Runs};
-ghost use Rattle.hc_expand.specs.Sound.{AreSound, Grows};
-ghost use Rattle.hc_expand.specs.Statement as spec;
+ghost use Rattle.hc_scope.specs.Sound.{AreSound, Grows};
+ghost use Rattle.hc_scope.specs.Statement as spec;
 ghost use Rattle.hc_tree.specs.declared.place.Place as the_place;
 ghost use Rattle.hc_tree.specs.declared.stmt.Condition.TheVariants as word;
 ghost use Rattle.hc_tree.specs.declared.stmt.LocalItem.TheOpen.{Stmt-F};
 
-use crate::conditions::condition;
-use crate::expression as of;
-use crate::scope::Scope;
-use crate::state::State;
 use crate::statements::Statements;
 use hc_core::{Expr, Stmt};
+use hc_evaluate as of;
+use hc_evaluate::condition;
+use hc_scope::{Scope, State};
 use hc_tree as tree;
 use hc_tree::{ExprTree, FrontErr, Place};
 use sqlite_items::Boxed;
@@ -43,7 +42,7 @@ impl<
         ) -> Result<Stmt, FrontErr>,
 > Statements<F> {
     // A statement that may be left out.
-    #[tactic(auto, using(hc_core::proofs::Read::reading, crate::proofs::Longer::grows_not))]
+    #[tactic(auto, using(hc_core::proofs::Read::reading, hc_scope::proofs::Longer::grows_not))]
     pub(crate) fn statement_or_skip<'s, 't>(
         &self,
         state: &mut State,
@@ -64,7 +63,7 @@ impl<
     }
 
     // `if`, with both branches.
-    #[tactic(auto, using(crate::proofs::Steps::err_then, crate::proofs::Steps::value_then, crate::proofs::Made::as_before))]
+    #[tactic(auto, using(hc_evaluate::proofs::Steps::err_then, hc_evaluate::proofs::Steps::value_then, crate::proofs::Made::as_before))]
     pub(crate) fn if_statement<'s, 't>(
         &self,
         state: &mut State,
@@ -113,7 +112,7 @@ impl<
     }
 
     // Both branches of an `if`.
-    #[tactic(auto, using(crate::proofs::Steps::err_then, crate::proofs::Steps::value_then, crate::proofs::Longer::grows_on, crate::proofs::Kept::grown_statement))]
+    #[tactic(auto, using(hc_evaluate::proofs::Steps::err_then, hc_evaluate::proofs::Steps::value_then, hc_scope::proofs::Longer::grows_on, crate::proofs::Kept::grown_statement))]
     fn both<'s, 't>(
         &self,
         state: &mut State,
@@ -138,7 +137,7 @@ impl<
     }
 
     // `ifselect`: the chosen side alone.
-    #[tactic(auto, using(crate::proofs::Steps::err_then, crate::proofs::Steps::value_then))]
+    #[tactic(auto, using(hc_evaluate::proofs::Steps::err_then, hc_evaluate::proofs::Steps::value_then))]
     pub(crate) fn if_select<'s, 't>(
         &self,
         state: &mut State,

@@ -6,19 +6,17 @@ ghost use Rattle.hc_core.specs.Typed.{kinds_of};
 ghost use Rattle.hc_core.specs.declared.object.Kind.{Kind};
 ghost use Rattle.hc_expand.specs.Forms.{parts_read};
 ghost use Rattle.hc_expand.specs.Branches.{offered_read, IsOffered, IsCase};
-ghost use Rattle.hc_expand.specs.Nodes.{nodes};
-ghost use Rattle.hc_expand.specs.Reading.{context_of, Answers};
+ghost use Rattle.hc_scope.specs.Nodes.{nodes};
+ghost use Rattle.hc_scope.specs.Reading.{context_of, Answers};
 ghost use Rattle.hc_expand.specs.Runs.{Runs};
-ghost use Rattle.hc_expand.specs.Sound.{AreSound, Grows};
-ghost use Rattle.hc_expand.specs.Statement as spec;
-ghost use Rattle.hc_expand.specs.Targets.{channel_read, IsChannelOf};
+ghost use Rattle.hc_scope.specs.Sound.{AreSound, Grows};
+ghost use Rattle.hc_scope.specs.Statement as spec;
+ghost use Rattle.hc_evaluate.specs.Targets.{channel_read, IsChannelOf};
 
-use crate::channel::{Channel, find_channel, received, sent};
-use crate::scope::Scope;
-use crate::state::State;
 use crate::statements::Statements;
-use crate::visit::enter;
 use hc_core::{Case, Expr, Stmt, Stmts, Target};
+use hc_evaluate::{Channel, find_channel, received, sent};
+use hc_scope::{Scope, State, enter};
 use hc_tree as tree;
 use hc_tree::{FrontErr, Offer, Place};
 use std::alloc::Global;
@@ -42,7 +40,7 @@ impl<
         ) -> Result<Stmt, FrontErr>,
 > Statements<F> {
     // A case, as a node.
-    #[tactic(auto, using(crate::proofs::PartNodes::case_is, crate::proofs::StatementNodes::runs_inside))]
+    #[tactic(auto, using(hc_evaluate::proofs::PartNodes::case_is, crate::proofs::StatementNodes::runs_inside))]
     pub(crate) fn case<'s, 't>(
         &self,
         state: &mut State,
@@ -63,7 +61,7 @@ impl<
     }
 
     // A case by its parts: what it waits for, and the sequence of its statements.
-    #[tactic(auto, using(crate::proofs::Steps::err_then, crate::proofs::Steps::value_then, crate::proofs::Branches::grown_offer), unfolding(crate::specs::Statement::case_form))]
+    #[tactic(auto, using(hc_evaluate::proofs::Steps::err_then, hc_evaluate::proofs::Steps::value_then, crate::proofs::Branches::grown_offer), unfolding(hc_scope::specs::Statement::case_form))]
     fn case_form<'s, 't>(
         &self,
         state: &mut State,
@@ -95,7 +93,7 @@ impl<
 }
 
 // What a case waits for, with the channel's type.
-#[tactic(auto, using(crate::proofs::Steps::err_then, crate::proofs::Steps::value_then, crate::proofs::Branches::sends_offered, crate::proofs::Branches::receives_offered))]
+#[tactic(auto, using(hc_evaluate::proofs::Steps::err_then, hc_evaluate::proofs::Steps::value_then, crate::proofs::Branches::sends_offered, crate::proofs::Branches::receives_offered))]
 fn offer_of<'s, 't>(
     alloc: Global,
     state: &mut State,

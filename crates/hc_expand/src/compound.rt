@@ -2,17 +2,16 @@ ghost use Rattle.std.specs.Prelude.{◌≡◌, IfOk, OnOk};
 ghost use Rattle.hc_core.specs.Read.{statement};
 ghost use Rattle.hc_core.specs.Sound.{IsTyped};
 ghost use Rattle.hc_core.specs.Typed.{kinds_of};
-ghost use Rattle.hc_expand.specs.Nodes.{nodes};
-ghost use Rattle.hc_expand.specs.Reading.{context_of, Answers};
+ghost use Rattle.hc_scope.specs.Nodes.{nodes};
+ghost use Rattle.hc_scope.specs.Reading.{context_of, Answers};
 ghost use Rattle.hc_expand.specs.Runs.{Runs};
-ghost use Rattle.hc_expand.specs.Sound.{AreSound, Grows};
-ghost use Rattle.hc_expand.specs.Statement as spec;
+ghost use Rattle.hc_scope.specs.Sound.{AreSound, Grows};
+ghost use Rattle.hc_scope.specs.Statement as spec;
 ghost use Rattle.hc_tree.specs.declared.stmt.LocalItem.TheOpen.{Stmt-F};
 
-use crate::scope::Scope;
-use crate::state::State;
 use crate::statements::Statements;
 use hc_core::Stmt;
+use hc_scope::{Scope, State};
 use hc_tree as tree;
 use hc_tree::{Block, FrontErr, Place};
 use std::alloc::Global;
@@ -29,7 +28,7 @@ impl<
         ) -> Result<Stmt, FrontErr>,
 > Statements<F> {
     // A block as a sequence.
-    #[tactic(auto, using(crate::proofs::Steps::err_then, crate::proofs::Steps::value_then, crate::proofs::Listed::read_sequence, crate::proofs::Listed::sequence_typed))]
+    #[tactic(auto, using(hc_evaluate::proofs::Steps::err_then, hc_evaluate::proofs::Steps::value_then, crate::proofs::Listed::read_sequence, crate::proofs::Listed::sequence_typed))]
     pub(crate) fn sequence<'s, 't>(
         &self,
         state: &mut State,
@@ -51,7 +50,7 @@ impl<
     }
 
     // A block whose statements are branches.
-    #[tactic(auto, using(crate::proofs::Steps::err_then, crate::proofs::Steps::value_then, crate::proofs::Listed::read_parallel, crate::proofs::Listed::parallel_typed))]
+    #[tactic(auto, using(hc_evaluate::proofs::Steps::err_then, hc_evaluate::proofs::Steps::value_then, crate::proofs::Listed::read_parallel, crate::proofs::Listed::parallel_typed))]
     pub(crate) fn parallel<'s, 't>(
         &self,
         state: &mut State,

@@ -2,7 +2,7 @@ ghost use Rattle.std.specs.Prelude.{◌≡◌, ◌⊎◌};
 ghost use Rattle.hc_tree.specs.declared.item.Tree.{Tree};
 ghost use Rattle.hc_tree.specs.declared.refusal.Refusal.{Refusal};
 ghost use Rattle.hc_core.specs.declared.object.Core.{Core};
-ghost use Rattle.hc_expand.specs.Expands.{Expands, Stops};
+ghost use Rattle.hc_scope.specs.Expands.{Expands, Stops};
 
 /// A tree expands to at most one core.
 pub fn one_core()

@@ -5,21 +5,18 @@ ghost use Rattle.hc_core.specs.Read.{expression, statement};
 ghost use Rattle.hc_core.specs.Sound.{IsTyped};
 ghost use Rattle.hc_core.specs.Typed.{HasSomeType, kinds_of};
 ghost use Rattle.hc_expand.specs.Forms.{IsMade, IsLoopTyped, for_made, loop_read, loop_parts, loop_condition, loop_last};
-ghost use Rattle.hc_expand.specs.Nodes.{nodes};
-ghost use Rattle.hc_expand.specs.Reading.{context_of, Answers};
+ghost use Rattle.hc_scope.specs.Nodes.{nodes};
+ghost use Rattle.hc_scope.specs.Reading.{context_of, Answers};
 ghost use Rattle.hc_expand.specs.Runs.{Runs};
-ghost use Rattle.hc_expand.specs.Sound.{AreSound, Grows};
-ghost use Rattle.hc_expand.specs.Statement as spec;
+ghost use Rattle.hc_scope.specs.Sound.{AreSound, Grows};
+ghost use Rattle.hc_scope.specs.Statement as spec;
 ghost use Rattle.hc_tree.specs.declared.stmt.LocalItem.TheOpen.{Stmt-F};
 
-use crate::assignment::simple_form;
-use crate::conditions::{condition, condition_or_one};
-use crate::expression as of;
-use crate::scope::Scope;
-use crate::state::State;
 use crate::statements::Statements;
-use crate::visit::{enter, simple_place};
 use hc_core::{Expr, Stmt};
+use hc_evaluate as of;
+use hc_evaluate::{condition, condition_or_one, simple_form};
+use hc_scope::{Scope, State, enter, simple_place};
 use hc_tree as tree;
 use hc_tree::{ExprTree, FrontErr, Place, Simple};
 use sqlite_items::{Boxed, Items};
@@ -45,7 +42,7 @@ impl<
         ) -> Result<Stmt, FrontErr>,
 > Statements<F> {
     // `while`
-    #[tactic(auto, using(crate::proofs::Steps::err_then, crate::proofs::Steps::value_then, crate::proofs::Made::made_answers, crate::proofs::Made::while_typed))]
+    #[tactic(auto, using(hc_evaluate::proofs::Steps::err_then, hc_evaluate::proofs::Steps::value_then, crate::proofs::Made::made_answers, crate::proofs::Made::while_typed))]
     pub(crate) fn while_statement<'s, 't>(
         &self,
         state: &mut State,
@@ -71,7 +68,7 @@ impl<
     }
 
     // `do` with `while` behind it.
-    #[tactic(auto, using(crate::proofs::Steps::err_then, crate::proofs::Steps::value_then, crate::proofs::Made::made_answers, crate::proofs::Made::do_typed))]
+    #[tactic(auto, using(hc_evaluate::proofs::Steps::err_then, hc_evaluate::proofs::Steps::value_then, crate::proofs::Made::made_answers, crate::proofs::Made::do_typed))]
     pub(crate) fn do_while<'s, 't>(
         &self,
         state: &mut State,
@@ -128,7 +125,7 @@ impl<
 }
 
 // The first part, the condition and the last part of a `for`.
-#[tactic(auto, using(crate::proofs::Steps::err_then, crate::proofs::Steps::value_then, crate::proofs::Made::loop_ok, crate::proofs::Made::stays))]
+#[tactic(auto, using(hc_evaluate::proofs::Steps::err_then, hc_evaluate::proofs::Steps::value_then, crate::proofs::Made::loop_ok, crate::proofs::Made::stays))]
 fn loop_parts<'s, 't>(
     alloc: Global,
     state: &mut State,
@@ -151,7 +148,7 @@ fn loop_parts<'s, 't>(
 }
 
 // The parts of a `for` behind its first one.
-#[tactic(auto, using(crate::proofs::Steps::err_then, crate::proofs::Steps::value_then, crate::proofs::Made::loop_ok, crate::proofs::Made::as_before, crate::proofs::Made::stays))]
+#[tactic(auto, using(hc_evaluate::proofs::Steps::err_then, hc_evaluate::proofs::Steps::value_then, crate::proofs::Made::loop_ok, crate::proofs::Made::as_before, crate::proofs::Made::stays))]
 fn loop_condition<'s, 't>(
     alloc: Global,
     state: &mut State,
@@ -175,7 +172,7 @@ fn loop_condition<'s, 't>(
 }
 
 // The last part of a `for`, behind the others.
-#[tactic(auto, using(crate::proofs::Steps::err_then, crate::proofs::Steps::value_then))]
+#[tactic(auto, using(hc_evaluate::proofs::Steps::err_then, hc_evaluate::proofs::Steps::value_then))]
 fn loop_last<'s, 't>(
     alloc: Global,
     state: &mut State,

@@ -2,18 +2,16 @@ ghost use Rattle.std.specs.Prelude.{IfOk, OnOk, map, Some, None};
 ghost use Rattle.hc_core.specs.Read.{statement, cases, case_before};
 ghost use Rattle.hc_core.specs.Sound.{IsTyped, CasesTyped};
 ghost use Rattle.hc_core.specs.Typed.{kinds_of};
-ghost use Rattle.hc_expand.specs.Expansion.{each};
-ghost use Rattle.hc_expand.specs.Nodes.{nodes};
-ghost use Rattle.hc_expand.specs.Reading.{context_of, Answers};
+ghost use Rattle.hc_scope.specs.Expansion.{each};
+ghost use Rattle.hc_scope.specs.Nodes.{nodes};
+ghost use Rattle.hc_scope.specs.Reading.{context_of, Answers};
 ghost use Rattle.hc_expand.specs.Runs.{Runs};
-ghost use Rattle.hc_expand.specs.Sound.{AreSound, Grows};
-ghost use Rattle.hc_expand.specs.Statement as spec;
+ghost use Rattle.hc_scope.specs.Sound.{AreSound, Grows};
+ghost use Rattle.hc_scope.specs.Statement as spec;
 
-use crate::scope::Scope;
-use crate::state::State;
 use crate::statements::Statements;
-use crate::visit::enter;
 use hc_core::{Cases, Stmt};
+use hc_scope::{Scope, State, enter};
 use hc_tree as tree;
 use hc_tree::{FrontErr, Other, Place};
 use sqlite_items::{Boxed, Items};
@@ -53,7 +51,7 @@ impl<
     }
 
     // A `prialt` without default.
-    #[tactic(auto, using(crate::proofs::Steps::err_then, crate::proofs::Steps::value_then, crate::proofs::Branches::read_prialt, crate::proofs::Branches::prialt_typed))]
+    #[tactic(auto, using(hc_evaluate::proofs::Steps::err_then, hc_evaluate::proofs::Steps::value_then, crate::proofs::Branches::read_prialt, crate::proofs::Branches::prialt_typed))]
     fn prialt_alone<'s, 't>(
         &self,
         state: &mut State,
@@ -79,7 +77,7 @@ impl<
     }
 
     // A `prialt` with a default.
-    #[tactic(auto, using(crate::proofs::Steps::err_then, crate::proofs::Steps::value_then, crate::proofs::Longer::grows_on, crate::proofs::Branches::read_prialt_else, crate::proofs::Branches::prialt_else_typed))]
+    #[tactic(auto, using(hc_evaluate::proofs::Steps::err_then, hc_evaluate::proofs::Steps::value_then, hc_scope::proofs::Longer::grows_on, crate::proofs::Branches::read_prialt_else, crate::proofs::Branches::prialt_else_typed))]
     fn prialt_else<'s, 't>(
         &self,
         state: &mut State,
@@ -112,7 +110,7 @@ impl<
     }
 
     // The cases of a `prialt` one after another.
-    #[tactic(auto, using(crate::proofs::Each::along_start, crate::proofs::Each::along_more, crate::proofs::Each::along_err, crate::proofs::Each::along_end, crate::proofs::Longer::grows_not, crate::proofs::Longer::grows_on, crate::proofs::Branches::no_cases))]
+    #[tactic(auto, using(crate::proofs::Each::along_start, crate::proofs::Each::along_more, crate::proofs::Each::along_err, crate::proofs::Each::along_end, hc_scope::proofs::Longer::grows_not, hc_scope::proofs::Longer::grows_on, crate::proofs::Branches::no_cases))]
     fn cases<'s, 't>(
         &self,
         state: &mut State,
@@ -142,7 +140,7 @@ impl<
     }
 
     // The default, as a node.
-    #[tactic(auto, using(crate::proofs::PartNodes::other_is, crate::proofs::StatementNodes::runs_inside))]
+    #[tactic(auto, using(hc_evaluate::proofs::PartNodes::other_is, crate::proofs::StatementNodes::runs_inside))]
     fn other<'s, 't>(
         &self,
         state: &mut State,
@@ -163,7 +161,7 @@ impl<
     }
 
     // The default by its parts: the sequence of its statements.
-    #[tactic(auto, using(crate::proofs::Steps::err_then, crate::proofs::Steps::value_then, crate::proofs::Listed::read_sequence, crate::proofs::Branches::sequence_typed), unfolding(crate::specs::Statement::other_form))]
+    #[tactic(auto, using(hc_evaluate::proofs::Steps::err_then, hc_evaluate::proofs::Steps::value_then, crate::proofs::Listed::read_sequence, crate::proofs::Branches::sequence_typed), unfolding(hc_scope::specs::Statement::other_form))]
     fn other_form<'s, 't>(
         &self,
         state: &mut State,

@@ -2,18 +2,15 @@ ghost use Rattle.std.specs.Prelude.{◌<◌, IfOk, OnOk};
 ghost use Rattle.hc_core.specs.Read.{statement};
 ghost use Rattle.hc_core.specs.Sound.{IsTyped};
 ghost use Rattle.hc_core.specs.Typed.{kinds_of};
-ghost use Rattle.hc_expand.specs.Nodes.{nodes};
-ghost use Rattle.hc_expand.specs.Reading.{scope_of, meaning_of, context_of, Answers};
+ghost use Rattle.hc_scope.specs.Nodes.{nodes};
+ghost use Rattle.hc_scope.specs.Reading.{scope_of, meaning_of, context_of, Answers};
 ghost use Rattle.hc_expand.specs.Runs.{Runs};
-ghost use Rattle.hc_expand.specs.Sound.{AreSound, Grows};
-ghost use Rattle.hc_expand.specs.Statement as spec;
+ghost use Rattle.hc_scope.specs.Sound.{AreSound, Grows};
+ghost use Rattle.hc_scope.specs.Statement as spec;
 
-use crate::call::call_scope;
-use crate::refusal::broken_name;
-use crate::scope::{Found, Meaning, Scope, find};
-use crate::state::State;
 use crate::statements::Statements;
 use hc_core::Stmt;
+use hc_scope::{Found, Meaning, Scope, State, broken_name, call_scope, find};
 use hc_tree as tree;
 use hc_tree::{Block, ExprTree, FrontErr, Ident, Place, Rule};
 use std::alloc::Global;
@@ -30,7 +27,7 @@ impl<
         ) -> Result<Stmt, FrontErr>,
 > Statements<F> {
     // A call of a macro procedure: S4 where the name isn't declared, and S6 where it is no procedure's.
-    #[tactic(auto, unfolding(crate::specs::Statement::run))]
+    #[tactic(auto, unfolding(hc_scope::specs::Statement::run))]
     pub(crate) fn run<'s, 't>(
         &self,
         state: &mut State,
@@ -87,7 +84,7 @@ impl<
     }
 
     // The body of a macro procedure, with its parameters bound to arguments.
-    #[tactic(auto, using(crate::proofs::Steps::err_then, crate::proofs::Steps::value_then, crate::proofs::Listed::read_sequence, crate::proofs::Branches::sequence_typed))]
+    #[tactic(auto, using(hc_evaluate::proofs::Steps::err_then, hc_evaluate::proofs::Steps::value_then, crate::proofs::Listed::read_sequence, crate::proofs::Branches::sequence_typed))]
     fn run_body<'s, 't>(
         &self,
         state: &mut State,

@@ -2,17 +2,16 @@ ghost use Rattle.std.specs.Prelude.{◌≡◌, IfOk, OnOk};
 ghost use Rattle.hc_core.specs.Read.{statements};
 ghost use Rattle.hc_core.specs.Sound.{AllTyped};
 ghost use Rattle.hc_core.specs.Typed.{kinds_of};
-ghost use Rattle.hc_expand.specs.Expansion as spec;
+ghost use Rattle.hc_scope.specs.Expansion as spec;
 ghost use Rattle.hc_expand.specs.Forms.{parts_read};
-ghost use Rattle.hc_expand.specs.Nodes.{nodes};
-ghost use Rattle.hc_expand.specs.Reading.{context_of, Answers};
+ghost use Rattle.hc_scope.specs.Nodes.{nodes};
+ghost use Rattle.hc_scope.specs.Reading.{context_of, Answers};
 ghost use Rattle.hc_expand.specs.Runs.{Runs};
-ghost use Rattle.hc_expand.specs.Sound.{AreSound, Grows};
+ghost use Rattle.hc_scope.specs.Sound.{AreSound, Grows};
 
-use crate::scope::Scope;
-use crate::state::State;
 use crate::statements::Statements;
 use hc_core::{Stmt, Stmts};
+use hc_scope::{Scope, State};
 use hc_tree as tree;
 use hc_tree::FrontErr;
 use sqlite_items::Items;
@@ -30,7 +29,7 @@ impl<
         ) -> Result<Stmt, FrontErr>,
 > Statements<F> {
     // Statements one after another.
-    #[tactic(auto, using(crate::proofs::Each::along_start, crate::proofs::Each::along_more, crate::proofs::Each::along_err, crate::proofs::Each::along_end, crate::proofs::Longer::grows_not, crate::proofs::Longer::grows_on, crate::proofs::Listed::none_typed, crate::proofs::Listed::one_more_part))]
+    #[tactic(auto, using(crate::proofs::Each::along_start, crate::proofs::Each::along_more, crate::proofs::Each::along_err, crate::proofs::Each::along_end, hc_scope::proofs::Longer::grows_not, hc_scope::proofs::Longer::grows_on, crate::proofs::Listed::none_typed, crate::proofs::Listed::one_more_part))]
     pub(crate) fn each<'s, 't>(
         &self,
         state: &mut State,

@@ -3,19 +3,16 @@ ghost use Rattle.hc_core.specs.Read as read;
 ghost use Rattle.hc_core.specs.Sound.{IsTyped, AllTyped};
 ghost use Rattle.hc_core.specs.Typed.{kinds_of};
 ghost use Rattle.hc_expand.specs.Forms.{parts_read};
-ghost use Rattle.hc_expand.specs.Nodes.{nodes};
-ghost use Rattle.hc_expand.specs.Reading.{context_of, Answers};
+ghost use Rattle.hc_scope.specs.Nodes.{nodes};
+ghost use Rattle.hc_scope.specs.Reading.{context_of, Answers};
 ghost use Rattle.hc_expand.specs.Runs.{Runs};
-ghost use Rattle.hc_expand.specs.Sound.{AreSound, Grows};
-ghost use Rattle.hc_expand.specs.Statement as spec;
+ghost use Rattle.hc_scope.specs.Sound.{AreSound, Grows};
+ghost use Rattle.hc_scope.specs.Statement as spec;
 
-use crate::assignment::simple_form;
-use crate::scope::Scope;
-use crate::sending::{receive, send};
-use crate::state::State;
 use crate::statements::Statements;
-use crate::visit::{enter, simple_place};
 use hc_core::{Stmt, Stmts};
+use hc_evaluate::{receive, send, simple_form};
+use hc_scope::{Scope, State, enter, simple_place};
 use hc_tree as tree;
 use hc_tree::{Block, Condition, FrontErr, Place};
 use std::alloc::Global;
@@ -128,7 +125,7 @@ impl<
         ) -> Result<Stmt, FrontErr>,
 > Statements<F> {
     // A statement by its form.
-    #[tactic(auto, using(hc_core::proofs::Read::reading, crate::proofs::Longer::grows_not), unfolding(crate::specs::Statement::statement_form))]
+    #[tactic(auto, using(hc_core::proofs::Read::reading, hc_scope::proofs::Longer::grows_not), unfolding(hc_scope::specs::Statement::statement_form))]
     fn statement_form<'s, 't>(
         &self,
         state: &mut State,

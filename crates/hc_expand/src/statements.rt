@@ -2,14 +2,13 @@ ghost use Rattle.std.specs.Prelude.{◌≡◌, ◌≤◌, ◌-◌, IfOk, OnOk};
 ghost use Rattle.hc_core.specs.Read.{statement};
 ghost use Rattle.hc_core.specs.Sound.{IsTyped};
 ghost use Rattle.hc_core.specs.Typed.{kinds_of};
-ghost use Rattle.hc_expand.specs.Nodes.{nodes};
-ghost use Rattle.hc_expand.specs.Reading.{context_of, Answers};
+ghost use Rattle.hc_scope.specs.Nodes.{nodes};
+ghost use Rattle.hc_scope.specs.Reading.{context_of, Answers};
 ghost use Rattle.hc_expand.specs.Runs.{Runs};
-ghost use Rattle.hc_expand.specs.Sound.{AreSound, Grows};
+ghost use Rattle.hc_scope.specs.Sound.{AreSound, Grows};
 
-use crate::scope::Scope;
-use crate::state::State;
 use hc_core::Stmt;
+use hc_scope::{Scope, State};
 use hc_tree as tree;
 use hc_tree::FrontErr;
 use std::alloc::Global;

@@ -6,24 +6,20 @@ ghost use Rattle.hc_core.specs.Sound.{HasType, IsWidth};
 ghost use Rattle.hc_core.specs.Typed.{kinds_of};
 ghost use Rattle.hc_tree.specs.declared.stmt.Label as labels;
 ghost use Rattle.hc_width.specs.Operand.{operand, IsOperand, IsTyped};
-ghost use Rattle.hc_expand.specs.Lists.{Continues};
-ghost use Rattle.hc_expand.specs.Labelled.{labels_behind};
-ghost use Rattle.hc_expand.specs.Nodes.{nodes};
-ghost use Rattle.hc_expand.specs.Reading.{context_of, Answers};
+ghost use Rattle.hc_scope.specs.Lists.{Continues};
+ghost use Rattle.hc_scope.specs.Labelled.{labels_behind};
+ghost use Rattle.hc_scope.specs.Nodes.{nodes};
+ghost use Rattle.hc_scope.specs.Reading.{context_of, Answers};
 ghost use Rattle.hc_expand.specs.Runs.{Runs};
-ghost use Rattle.hc_expand.specs.Sound.{AreSound, Grows};
-ghost use Rattle.hc_expand.specs.Statement as spec;
-ghost use Rattle.hc_expand.specs.Types.{type_read};
+ghost use Rattle.hc_scope.specs.Sound.{AreSound, Grows};
+ghost use Rattle.hc_scope.specs.Statement as spec;
+ghost use Rattle.hc_scope.specs.Types.{type_read};
 
-use crate::expression as of;
-use crate::initial::initial;
-use crate::refusal::broken;
-use crate::scope::Scope;
-use crate::state::State;
 use crate::statements::Statements;
-use crate::value_type::ValueType;
-use crate::visit::place_of;
 use hc_core::{Expr, Nums, Stmt};
+use hc_evaluate as of;
+use hc_evaluate::initial;
+use hc_scope::{Scope, State, ValueType, broken, place_of};
 use hc_tree as tree;
 use hc_tree::{ExprTree, FrontErr, Label, Place, Rule};
 use hc_width::{Value, type_of};
@@ -42,7 +38,7 @@ impl<
         ) -> Result<Stmt, FrontErr>,
 > Statements<F> {
     // A `switch`: its selector has a type, which the labels of its arms have too.
-    #[tactic(auto, using(crate::proofs::Steps::err_then, crate::proofs::Steps::value_then, crate::proofs::Branches::read_switch, crate::proofs::Branches::switch_typed, crate::proofs::Branches::selector_width, hc_width::proofs::Kept::some_type), unfolding(crate::specs::Statement::switch))]
+    #[tactic(auto, using(hc_evaluate::proofs::Steps::err_then, hc_evaluate::proofs::Steps::value_then, crate::proofs::Branches::read_switch, crate::proofs::Branches::switch_typed, crate::proofs::Branches::selector_width, hc_width::proofs::Kept::some_type), unfolding(hc_scope::specs::Statement::switch))]
     pub(crate) fn switch<'s, 't>(
         &self,
         state: &mut State,
@@ -68,7 +64,7 @@ impl<
     }
 
     // A `switch` on a selector.
-    #[tactic(auto, using(crate::proofs::Steps::err_then, crate::proofs::Steps::value_then, crate::proofs::Branches::read_switch, crate::proofs::Branches::switch_typed, crate::proofs::Branches::selector_width, hc_width::proofs::Kept::some_type))]
+    #[tactic(auto, using(hc_evaluate::proofs::Steps::err_then, hc_evaluate::proofs::Steps::value_then, crate::proofs::Branches::read_switch, crate::proofs::Branches::switch_typed, crate::proofs::Branches::selector_width, hc_width::proofs::Kept::some_type))]
     fn switch_on<'s, 't>(
         &self,
         state: &mut State,
@@ -151,7 +147,7 @@ pub(crate) fn label_numbers<'s, 't>(
 }
 
 // The number of one more label behind those before; a `default` has none.
-#[tactic(auto, using(crate::proofs::Labelled::label_one, crate::proofs::Labelled::label_refused, crate::proofs::Fitted::one_more_typed))]
+#[tactic(auto, using(crate::proofs::Labelled::label_one, crate::proofs::Labelled::label_refused, hc_scope::proofs::Fitted::one_more_typed))]
 fn add_label<'s, 't>(
     alloc: Global,
     state: &mut State,

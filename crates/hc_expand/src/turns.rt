@@ -5,19 +5,16 @@ ghost use Rattle.hc_core.specs.Typed.{kinds_of};
 ghost use Rattle.hc_core.specs.declared.object.Kind.{Kind};
 ghost use Rattle.hc_expand.specs.Forms.{parts_read};
 ghost use Rattle.hc_expand.specs.Branches.{turned_read, IsTurn};
-ghost use Rattle.hc_expand.specs.Nodes.{nodes};
-ghost use Rattle.hc_expand.specs.Reading.{context_of, Answers};
+ghost use Rattle.hc_scope.specs.Nodes.{nodes};
+ghost use Rattle.hc_scope.specs.Reading.{context_of, Answers};
 ghost use Rattle.hc_expand.specs.Runs.{Runs};
-ghost use Rattle.hc_expand.specs.Sound.{AreSound, Grows};
-ghost use Rattle.hc_expand.specs.Statement as spec;
+ghost use Rattle.hc_scope.specs.Sound.{AreSound, Grows};
+ghost use Rattle.hc_scope.specs.Statement as spec;
 
-use crate::expression::constant;
-use crate::refusal::broken;
-use crate::replicator::step;
-use crate::scope::Scope;
-use crate::state::State;
 use crate::statements::Statements;
 use hc_core::{Stmt, Stmts};
+use hc_evaluate::{constant, step};
+use hc_scope::{Scope, State, broken};
 use hc_tree as tree;
 use hc_tree::{Block, ExprTree, FrontErr, Ident, Order, Place, Rule, Simple};
 use hc_width::Whole;
@@ -46,7 +43,7 @@ impl<
         ) -> Result<Stmt, FrontErr>,
 > Statements<F> {
     // A replicator: the bodies of its turns, in sequence or as branches.
-    #[tactic(auto, using(crate::proofs::Steps::err_then, crate::proofs::Steps::value_then))]
+    #[tactic(auto, using(hc_evaluate::proofs::Steps::err_then, hc_evaluate::proofs::Steps::value_then))]
     pub(crate) fn replicator<'s, 't>(
         &self,
         state: &mut State,
@@ -78,7 +75,7 @@ impl<
     }
 
     // The bodies of the turns.
-    #[tactic(auto, using(crate::proofs::Bodies::turns_start, crate::proofs::Longer::grows_not, crate::proofs::Longer::grows_on, crate::proofs::Listed::none_typed))]
+    #[tactic(auto, using(crate::proofs::Bodies::turns_start, hc_scope::proofs::Longer::grows_not, hc_scope::proofs::Longer::grows_on, crate::proofs::Listed::none_typed))]
     fn turns<'s, 't>(
         &self,
         state: &mut State,
@@ -121,7 +118,7 @@ impl<
     }
 
     // A turn, in which the variable stands for its number.
-    #[tactic(auto, unfolding(crate::specs::Statement::turn, crate::specs::Reading::scope_of))]
+    #[tactic(auto, unfolding(hc_scope::specs::Statement::turn, hc_scope::specs::Reading::scope_of))]
     fn turn<'s, 't>(
         &self,
         state: &mut State,
@@ -144,7 +141,7 @@ impl<
     }
 
     // A turn, or none where the condition doesn't hold.
-    #[tactic(auto, using(crate::proofs::Steps::err_then, crate::proofs::Steps::value_then, crate::proofs::Longer::grows_not))]
+    #[tactic(auto, using(hc_evaluate::proofs::Steps::err_then, hc_evaluate::proofs::Steps::value_then, hc_scope::proofs::Longer::grows_not))]
     fn turn_where<'s, 't>(
         &self,
         state: &mut State,
@@ -175,7 +172,7 @@ impl<
     }
 
     // A turn whose condition holds.
-    #[tactic(auto, using(crate::proofs::Steps::err_then, crate::proofs::Steps::value_then, crate::proofs::Listed::read_sequence, crate::proofs::Branches::sequence_typed))]
+    #[tactic(auto, using(hc_evaluate::proofs::Steps::err_then, hc_evaluate::proofs::Steps::value_then, crate::proofs::Listed::read_sequence, crate::proofs::Branches::sequence_typed))]
     fn turned<'s, 't>(
         &self,
         state: &mut State,

@@ -16,7 +16,7 @@ use Rattle.hc_tree.specs.declared.refusal.Refusal.{Refusal}
 use Rattle.hc_tree.specs.declared.refusal.Rule.{Rule}
 use Rattle.hc_tree.specs.declared.item.Tree.{Tree}
 use Rattle.hc_parse.specs.Parsed.{Parses, FirstRefusal, HasTree, HasFirst}
-use Rattle.hc_expand.specs.Expands as expansion
+use Rattle.hc_scope.specs.Expands as expansion
 use Rattle.hc_expand.specs.Spelled.{IsSpelled}
 use Rattle.hc_rules.specs.Weight.{most_weight, too_heavy}
 use Rattle.hc_run.specs.Answer.{IsSource, Accepted, BreaksTokens, FirstOfCore, of_weight, of_form, not_built, FirstOfTokens, of_grammar, of_tree, of_core, First, of_bytes, of_tokens, IfRefusal, HasCore, HasRefusal}

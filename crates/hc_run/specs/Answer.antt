@@ -18,7 +18,7 @@ use Rattle.hc_tree.specs.declared.refusal.Detail.TheVariants.{Nothing}
 use Rattle.hc_tree.specs.declared.refusal.Refusal.{Refusal}
 use Rattle.hc_core.specs.Weight.{weight_of, flops_of}
 use Rattle.hc_core.specs.declared.object.Core.{Core}
-use Rattle.hc_expand.specs.Expands as tree
+use Rattle.hc_scope.specs.Expands as tree
 use Rattle.hc_rules.specs.Weight.{most_weight, too_heavy}
 use Rattle.hc_net.specs.declared.net.RawNet.{RawNet}
 use Rattle.hc_net.specs.Valid.{IsValid}

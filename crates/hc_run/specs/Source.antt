@@ -6,7 +6,7 @@ use Rattle.hc_tree.specs.declared.refusal.Refusal.{Refusal}
 use Rattle.hc_core.specs.Program.{Expression, Constant}
 use Rattle.hc_core.specs.Weight.{weight_of}
 use Rattle.hc_core.specs.declared.object.Core.{Core}
-use Rattle.hc_expand.specs.Expands.{Expands, Stops}
+use Rattle.hc_scope.specs.Expands.{Expands, Stops}
 use Rattle.hc_rules.specs.Weight.{most_weight}
 use Rattle.hc_run.specs.Built.{unbuilt}
 use Rattle.hc_run.specs.Answer.{FirstOfCore, not_built}

@@ -4,7 +4,7 @@ use Rattle.hc_core.specs.Read.{statements}
 use Rattle.hc_core.specs.Sound.{HasLabelBytes}
 use Rattle.hc_core.specs.declared.stmt.Stmt.TheVariants as s
 use Rattle.hc_core.proofs.Read.{read_Seq}
-use Rattle.hc_expand.specs.Reading.{scope_of, context_of}
+use Rattle.hc_scope.specs.Reading.{scope_of, context_of}
 use Rattle.hc_expand.proofs.Cores.{core_answers, sound_core}
 use Rattle.hc_expand.proofs.program.core.Goals as goal
 

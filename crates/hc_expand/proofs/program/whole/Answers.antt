@@ -1,5 +1,5 @@
-use Rattle.hc_expand.specs.declared.scope.Scope.TheVariants as chain
-use Rattle.hc_expand.specs.Items.{items_in}
+use Rattle.hc_scope.specs.declared.scope.Scope.TheVariants as chain
+use Rattle.hc_declare.specs.Items.{items_in}
 use Rattle.hc_expand.proofs.Cores.{whole_core, whole_stops}
 use Rattle.hc_expand.proofs.program.whole.Goals as goal
 

@@ -1,5 +1,5 @@
 use Rattle.std.proofs.Common.{◌≡◌, length}
-use Rattle.hc_expand.specs.Statement as spec
+use Rattle.hc_scope.specs.Statement as spec
 use Rattle.hc_expand.proofs.switch.has_default.Given as goal
 
 -- what is left of the labels decides for all of them

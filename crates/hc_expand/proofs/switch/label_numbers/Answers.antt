@@ -1,10 +1,10 @@
 use Rattle.std.proofs.Common.{drop}
 use Rattle.hc_expand.proofs.Labelled.{labels_refused}
-use Rattle.hc_expand.proofs.Lists.{split_first}
-use Rattle.hc_expand.specs.Labelled.{labels_behind}
-use Rattle.hc_expand.specs.Nodes.{nodes}
-use Rattle.hc_expand.specs.Reading.{context_of}
-use Rattle.hc_expand.specs.Types.{type_read}
+use Rattle.hc_evaluate.proofs.Lists.{split_first}
+use Rattle.hc_scope.specs.Labelled.{labels_behind}
+use Rattle.hc_scope.specs.Nodes.{nodes}
+use Rattle.hc_scope.specs.Reading.{context_of}
+use Rattle.hc_scope.specs.Types.{type_read}
 use Rattle.hc_expand.proofs.switch.label_numbers.Goals as goal
 
 pub returns-in-Err-clause-answers : goal.returns-in-Err-clause-answers

@@ -1,10 +1,10 @@
 use Rattle.std.proofs.Common.{◌≡◌, [], length}
 use Rattle.std.specs.List.{All}
 use Rattle.hc_core.specs.Sound.{HasType}
-use Rattle.hc_expand.specs.Labelled.{labels_behind}
-use Rattle.hc_expand.specs.Nodes.{nodes}
-use Rattle.hc_expand.specs.Reading.{context_of}
-use Rattle.hc_expand.specs.Types.{type_read}
+use Rattle.hc_scope.specs.Labelled.{labels_behind}
+use Rattle.hc_scope.specs.Nodes.{nodes}
+use Rattle.hc_scope.specs.Reading.{context_of}
+use Rattle.hc_scope.specs.Types.{type_read}
 use Rattle.hc_expand.proofs.switch.label_numbers.Given as goal
 
 -- the numbers so far, with those of the rest behind, are those of all labels

@@ -1,10 +1,10 @@
 use Rattle.hc_core.specs.Read.{case_before}
-use Rattle.hc_expand.specs.Nodes.{nodes}
-use Rattle.hc_expand.specs.Reading.{context_of}
+use Rattle.hc_scope.specs.Nodes.{nodes}
+use Rattle.hc_scope.specs.Reading.{context_of}
 use Rattle.hc_expand.proofs.Branches.{one_more_case}
 use Rattle.hc_expand.proofs.Each.{along_step}
-use Rattle.hc_expand.proofs.Lists.{split_first}
-use Rattle.hc_expand.proofs.Longer.{grows_on}
+use Rattle.hc_evaluate.proofs.Lists.{split_first}
+use Rattle.hc_scope.proofs.Longer.{grows_on}
 use Rattle.hc_expand.proofs.statements.Statements.cases.Goals as goal
 
 pub each-preserved : goal.each-preserved

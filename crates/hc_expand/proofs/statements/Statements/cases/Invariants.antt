@@ -2,9 +2,9 @@ use Rattle.std.proofs.Common.{length, map}
 use Rattle.hc_core.specs.Read.{cases, case_before}
 use Rattle.hc_core.specs.Sound.{CasesTyped}
 use Rattle.hc_core.specs.Typed.{kinds_of}
-use Rattle.hc_expand.specs.Nodes.{nodes}
-use Rattle.hc_expand.specs.Reading.{context_of}
-use Rattle.hc_expand.specs.Sound.{Grows}
+use Rattle.hc_scope.specs.Nodes.{nodes}
+use Rattle.hc_scope.specs.Reading.{context_of}
+use Rattle.hc_scope.specs.Sound.{Grows}
 use Rattle.hc_expand.proofs.Each.{Along}
 use Rattle.hc_expand.proofs.statements.Statements.cases.Given as goal
 

@@ -1,9 +1,9 @@
 use Rattle.hc_core.specs.Read.{statement}
-use Rattle.hc_expand.specs.Nodes.{nodes}
-use Rattle.hc_expand.specs.Reading.{context_of}
+use Rattle.hc_scope.specs.Nodes.{nodes}
+use Rattle.hc_scope.specs.Reading.{context_of}
 use Rattle.hc_expand.proofs.Each.{along_step}
-use Rattle.hc_expand.proofs.Lists.{split_first}
-use Rattle.hc_expand.proofs.Longer.{grows_on}
+use Rattle.hc_evaluate.proofs.Lists.{split_first}
+use Rattle.hc_scope.proofs.Longer.{grows_on}
 use Rattle.hc_expand.proofs.Listed.{one_more_part}
 use Rattle.hc_expand.proofs.statements.Statements.each.Goals as goal
 

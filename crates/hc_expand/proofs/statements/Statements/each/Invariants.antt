@@ -3,9 +3,9 @@ use Rattle.hc_core.specs.Read.{statements}
 use Rattle.hc_core.specs.Sound.{AllTyped}
 use Rattle.hc_core.specs.Typed.{kinds_of}
 use Rattle.hc_expand.specs.Forms.{parts_read}
-use Rattle.hc_expand.specs.Nodes.{nodes}
-use Rattle.hc_expand.specs.Reading.{context_of}
-use Rattle.hc_expand.specs.Sound.{Grows}
+use Rattle.hc_scope.specs.Nodes.{nodes}
+use Rattle.hc_scope.specs.Reading.{context_of}
+use Rattle.hc_scope.specs.Sound.{Grows}
 use Rattle.hc_expand.proofs.Each.{Along}
 use Rattle.hc_expand.proofs.statements.Statements.each.Given as goal
 

@@ -1,7 +1,7 @@
 use Rattle.hc_expand.specs.Forms.{loop_read}
-use Rattle.hc_expand.specs.Nodes.{nodes}
-use Rattle.hc_expand.specs.Reading.{context_of}
-use Rattle.hc_expand.specs.Sound.{Grows}
+use Rattle.hc_scope.specs.Nodes.{nodes}
+use Rattle.hc_scope.specs.Reading.{context_of}
+use Rattle.hc_scope.specs.Sound.{Grows}
 use Rattle.hc_expand.proofs.Apart.{for_goes, for_stops}
 use Rattle.hc_expand.proofs.Made.{for_answers, for_behind_typed, for_behind_grows, loop_grows_where, loop_after}
 use Rattle.hc_expand.proofs.statements.Statements.for_statement.Goals as goal

@@ -1,7 +1,7 @@
 use Rattle.hc_core.specs.Read.{expression}
 use Rattle.hc_expand.specs.Forms.{both_read}
-use Rattle.hc_expand.specs.Nodes.{nodes}
-use Rattle.hc_expand.specs.Reading.{context_of}
+use Rattle.hc_scope.specs.Nodes.{nodes}
+use Rattle.hc_scope.specs.Reading.{context_of}
 use Rattle.hc_expand.proofs.Apart.{if_answers, if_stops}
 use Rattle.hc_expand.proofs.Made.{if_typed}
 use Rattle.hc_expand.proofs.statements.Statements.if_branches.Goals as goal

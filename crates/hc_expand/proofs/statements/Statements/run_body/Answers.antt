@@ -1,12 +1,12 @@
 use Rattle.std.specs.Prelude.{◌+◌}
 use Rattle.hc_core.specs.Program.{Seq}
 use Rattle.hc_core.specs.Read.{statement}
-use Rattle.hc_expand.specs.Expansion.{◌>>=◌, pure}
-use Rattle.hc_expand.specs.Expression.{call_context}
-use Rattle.hc_expand.specs.Nodes.{nodes}
-use Rattle.hc_expand.specs.Reading.{scope_of, context_of}
-use Rattle.hc_expand.specs.Statement.{in_order}
-use Rattle.hc_expand.proofs.Steps.{err_then}
+use Rattle.hc_scope.specs.Expansion.{◌>>=◌, pure}
+use Rattle.hc_scope.specs.Expression.{call_context}
+use Rattle.hc_scope.specs.Nodes.{nodes}
+use Rattle.hc_scope.specs.Reading.{scope_of, context_of}
+use Rattle.hc_scope.specs.Statement.{in_order}
+use Rattle.hc_evaluate.proofs.Steps.{err_then}
 use Rattle.hc_expand.proofs.statements.Statements.run_body.Goals as goal
 
 pub returns-in-Err-clause-answers : goal.returns-in-Err-clause-answers

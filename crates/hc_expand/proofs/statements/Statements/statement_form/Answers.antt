@@ -1,8 +1,8 @@
 use Rattle.std.proofs.Common.{rules}
 use Rattle.hc_tree.specs.declared.stmt.Stmt.{the_lemmas}
-use Rattle.hc_expand.specs.Nodes.{nodes}
-use Rattle.hc_expand.specs.Reading.{context_of}
-use Rattle.hc_expand.specs.Statement.{statement_form}
+use Rattle.hc_scope.specs.Nodes.{nodes}
+use Rattle.hc_scope.specs.Reading.{context_of}
+use Rattle.hc_scope.specs.Statement.{statement_form}
 use Rattle.hc_expand.proofs.StatementForms.{delay_form}
 use Rattle.hc_expand.proofs.statements.Statements.statement_form.Goals as goal
 

@@ -3,15 +3,15 @@ use Rattle.std.proofs.lemmas.List.{map-append}
 use Rattle.hc_core.specs.Read.{statement, statements}
 use Rattle.hc_core.specs.Typed.{kinds_of}
 use Rattle.hc_expand.specs.Branches.{turned_read, IsTurn}
-use Rattle.hc_expand.specs.Expansion.{Yields}
+use Rattle.hc_scope.specs.Expansion.{Yields}
 use Rattle.hc_expand.specs.Forms.{parts_read}
-use Rattle.hc_expand.specs.Nodes.{nodes}
-use Rattle.hc_expand.specs.Reading.{context_of}
-use Rattle.hc_expand.specs.Statement as spec
+use Rattle.hc_scope.specs.Nodes.{nodes}
+use Rattle.hc_scope.specs.Reading.{context_of}
+use Rattle.hc_scope.specs.Statement as spec
 use Rattle.hc_expand.proofs.Bodies.{behind, goes_on, ends_here, refused_here, over}
 use Rattle.hc_expand.proofs.Kept.{grown_statements}
 use Rattle.hc_expand.proofs.Listed.{one_more_part}
-use Rattle.hc_expand.proofs.Longer.{grows_on}
+use Rattle.hc_scope.proofs.Longer.{grows_on}
 use Rattle.hc_expand.proofs.statements.Statements.turns.Goals as goal
 
 pub returns-in-Err-clause-answers : goal.returns-in-Err-clause-answers

@@ -3,10 +3,10 @@ use Rattle.hc_core.specs.Read.{statements}
 use Rattle.hc_core.specs.Sound.{AllTyped}
 use Rattle.hc_core.specs.Typed.{kinds_of}
 use Rattle.hc_expand.specs.Forms.{parts_read}
-use Rattle.hc_expand.specs.Nodes.{nodes}
-use Rattle.hc_expand.specs.Reading.{context_of}
-use Rattle.hc_expand.specs.Sound.{Grows}
-use Rattle.hc_expand.specs.Statement.{turns}
+use Rattle.hc_scope.specs.Nodes.{nodes}
+use Rattle.hc_scope.specs.Reading.{context_of}
+use Rattle.hc_scope.specs.Sound.{Grows}
+use Rattle.hc_scope.specs.Statement.{turns}
 use Rattle.hc_expand.proofs.Bodies.{behind}
 use Rattle.hc_expand.proofs.statements.Statements.turns.Given as goal
 

@@ -1,0 +1,12 @@
+pub mod Steps
+pub mod ObjectTypes
+pub mod Depth
+pub mod Lists
+pub mod Bits
+pub mod Destinations
+pub mod Results
+pub mod Channels
+pub mod Received
+pub mod OneBit
+pub mod Transfers
+pub mod PartNodes

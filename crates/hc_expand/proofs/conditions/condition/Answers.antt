@@ -1,5 +1,0 @@
-use Rattle.hc_expand.proofs.OneBit.{number_has}
-use Rattle.hc_expand.proofs.conditions.condition.Goals as goal
-
-pub returns-in-Constant-clause-typed : goal.returns-in-Constant-clause-typed
-returns-in-Constant-clause-typed c = λ kinds _. number_has kinds c.bit.result c.bit.ensures.number

@@ -1,7 +1,0 @@
-use Rattle.hc_expand.proofs.expression.+expand.Given as goal
-
-abbrev pub decreases-expression : goal.decreases-expression
-decreases-expression l = l.room
-
-abbrev pub decreases-before_index : goal.decreases-before_index
-decreases-before_index l = l.room

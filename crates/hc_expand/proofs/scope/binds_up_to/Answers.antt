@@ -1,7 +1,0 @@
-use Rattle.std.proofs.Common.{refl}
-use Rattle.hc_expand.specs.Reading.{scope_of}
-use Rattle.hc_expand.proofs.scope.binds_up_to.Goals as goal
-
-pub returns : goal.returns
-unfolding scope_of
-returns c = refl

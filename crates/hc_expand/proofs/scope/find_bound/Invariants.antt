@@ -1,5 +1,0 @@
-use Rattle.hc_expand.specs.Places.{IsBoundAt}
-use Rattle.hc_expand.proofs.scope.find_bound.Given as goal
-
-abbrev pub invariant-loop-at : goal.invariant-loop-at
-invariant-loop-at l = IsBoundAt l.name l.parameters l.arguments l.at l.last

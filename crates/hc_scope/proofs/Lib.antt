@@ -1,0 +1,12 @@
+pub mod Places
+pub mod Leads
+pub mod Calls
+pub mod Chains
+pub mod Trees
+pub mod Computed
+pub mod Rows
+pub mod Fitted
+pub mod Longer
+pub mod Reversed
+pub mod Stops
+pub mod Tables
