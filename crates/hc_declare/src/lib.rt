@@ -1,11 +1,11 @@
-//! Declarations within an expansion: the items of a source and the declarations of a block make objects and declare names.
+//! What is expanded of declarations: the items of a source, and what a block declares, make objects and declare names.
 #![tactic(auto)]
 
 mod declaration;
 mod declared_names;
 mod interface;
 mod items;
-mod locals;
+mod local_items;
 
 pub use items::{Roots, each_item};
-pub use locals::locals;
+pub use local_items::locals;

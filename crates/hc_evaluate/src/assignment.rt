@@ -9,7 +9,7 @@ ghost use Rattle.hc_scope.specs.Reading.{context_of, Answers};
 ghost use Rattle.hc_scope.specs.Sound.{AreSound};
 ghost use Rattle.hc_evaluate.specs.Targets.{destination_read, typed_read, assigned_value, IsDestination};
 
-use crate::expression::expression;
+use crate::expressions::expression;
 use crate::targets::{TypedDestination, find_destination};
 use crate::writing::{target_of, value_of};
 use hc_core::{BinOp, Stmt};

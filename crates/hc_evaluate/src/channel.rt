@@ -12,7 +12,7 @@ ghost use Rattle.hc_evaluate.specs.Targets.{channel_read, IsChannelOf};
 ghost use Rattle.hc_scope.specs.Types.{type_read};
 ghost use Rattle.hc_scope.specs.declared.state.State as the_state;
 
-use crate::expression::expression;
+use crate::expressions::expression;
 use crate::targets::find_destination;
 use crate::writing::{kept, target_of};
 use hc_core::{Expr, Kind, Target};

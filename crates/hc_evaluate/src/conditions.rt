@@ -10,7 +10,7 @@ ghost use Rattle.hc_scope.specs.Statement as spec;
 ghost use Rattle.hc_scope.specs.Reading.{context_of, Answers};
 ghost use Rattle.hc_scope.specs.Sound.{AreSound};
 
-use crate::expression as of;
+use crate::expressions as of;
 use hc_core::Expr;
 use hc_num::Num;
 use hc_scope::{Scope, State};

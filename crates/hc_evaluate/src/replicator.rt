@@ -9,7 +9,7 @@ ghost use Rattle.hc_scope.specs.Sound.{AreSound};
 ghost use Rattle.hc_scope.specs.declared.state.State as the_state;
 
 use crate::assignment::{operator, step_operator};
-use crate::expression::{constant, expression};
+use crate::expressions::{constant, expression};
 use crate::types::needs_constant;
 use hc_core::BinOp;
 use hc_scope::{Scope, State, broken_name, enter, simple_place};

@@ -18,7 +18,7 @@ ghost use Rattle.hc_scope.specs.Sound.{AreSound};
 ghost use Rattle.hc_evaluate.specs.Targets.{index_read, destination_read, IsDestination};
 ghost use Rattle.hc_scope.specs.declared.state.State as the_state;
 
-use crate::expression::expression;
+use crate::expressions::expression;
 use crate::index::index;
 use crate::targets::{Destination, IndexAt, TypedDestination};
 use hc_core::{Expr, Target};

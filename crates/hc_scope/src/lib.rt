@@ -16,7 +16,7 @@ mod state;
 mod table;
 mod taking;
 mod value_type;
-mod visit;
+mod visiting;
 
 pub use call::call_scope;
 pub use macros::{macro_form, macro_place};
@@ -31,4 +31,4 @@ pub use state::State;
 pub use table::fresh;
 pub use taking::taken;
 pub use value_type::ValueType;
-pub use visit::{enter, is_call, is_macro, place_of, simple_place, visit};
+pub use visiting::{enter, is_call, is_macro, place_of, simple_place, visit};

@@ -5,7 +5,7 @@ use Rattle.hc_scope.specs.Table.{context_in}
 use Rattle.hc_declare.proofs.BlockItems.{locals_step, locals_stop}
 use Rattle.hc_evaluate.proofs.Lists.{split_first}
 use Rattle.hc_scope.proofs.Longer.{grows_on}
-use Rattle.hc_declare.proofs.locals.locals.Goals as goal
+use Rattle.hc_declare.proofs.local_items.locals.Goals as goal
 
 pub returns-in-Err-clause-answers : goal.returns-in-Err-clause-answers
 returns-in-Err-clause-answers c =

@@ -5,7 +5,7 @@ use Rattle.hc_scope.specs.Declaration as spec
 use Rattle.hc_scope.specs.Lists.{behind}
 use Rattle.hc_scope.specs.Reading.{context_of}
 use Rattle.hc_scope.specs.Types.{type_read}
-use Rattle.hc_evaluate.proofs.elements.initial_values.Goals as goal
+use Rattle.hc_evaluate.proofs.first_values.initial_values.Goals as goal
 
 pub returns-in-Err-clause-answers : goal.returns-in-Err-clause-answers
 returns-in-Err-clause-answers c =

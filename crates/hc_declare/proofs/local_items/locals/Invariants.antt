@@ -3,7 +3,7 @@ use Rattle.hc_scope.specs.Nodes.{nodes}
 use Rattle.hc_scope.specs.Sound.{Grows}
 use Rattle.hc_scope.specs.Statement as spec
 use Rattle.hc_scope.specs.Table.{context_in}
-use Rattle.hc_declare.proofs.locals.locals.Given as goal
+use Rattle.hc_declare.proofs.local_items.locals.Given as goal
 
 -- the items that are left are those that are left of the whole list
 abbrev pub invariant-each : goal.invariant-each

@@ -7,7 +7,7 @@ ghost use Rattle.hc_scope.specs.Reading.{context_of, Answers};
 ghost use Rattle.hc_scope.specs.Sound.{AreSound};
 ghost use Rattle.hc_scope.specs.Types.{type_read};
 
-use crate::expression::constant;
+use crate::expressions::constant;
 use hc_num::Num;
 use hc_scope::{Scope, State, ValueType, broken, place_of};
 use hc_tree::{ExprTree, FrontErr, Rule};

@@ -11,7 +11,7 @@ ghost use Rattle.hc_scope.specs.Sound.{AreSound};
 ghost use Rattle.hc_scope.specs.Types.{type_read};
 ghost use Rattle.hc_scope.specs.declared.state.State as the_state;
 
-use crate::initial::{initial, length_of};
+use crate::constants::{initial, length_of};
 use hc_core::Nums;
 use hc_num::Num;
 use hc_scope::{FirstValues, Scope, State, ValueType, broken_name, wrong_number};

@@ -1,4 +1,4 @@
-use Rattle.hc_evaluate.proofs.expression.+expand.Given as goal
+use Rattle.hc_evaluate.proofs.expressions.+expand.Given as goal
 
 abbrev pub decreases-expression : goal.decreases-expression
 decreases-expression l = l.room

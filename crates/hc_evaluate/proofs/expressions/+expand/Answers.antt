@@ -1,5 +1,5 @@
 use Rattle.std.proofs.Common.{◌≤◌, arith}
-use Rattle.hc_evaluate.proofs.expression.+expand.Goals as goal
+use Rattle.hc_evaluate.proofs.expressions.+expand.Goals as goal
 
 pub before_index-before_index_form-requires-clause-nests : goal.before_index-before_index_form-requires-clause-nests
 before_index-before_index_form-requires-clause-nests t c =

@@ -6,7 +6,7 @@ use Rattle.hc_scope.specs.Declaration as spec
 use Rattle.hc_scope.specs.Lists.{behind}
 use Rattle.hc_scope.specs.Reading.{context_of}
 use Rattle.hc_scope.specs.Types.{type_read}
-use Rattle.hc_evaluate.proofs.elements.initial_values.Given as goal
+use Rattle.hc_evaluate.proofs.first_values.initial_values.Given as goal
 
 -- the values so far, with those of the rest behind, are those of the whole list
 abbrev pub invariant-loop-values : goal.invariant-loop-values
