@@ -6,7 +6,7 @@ pub mod Bits
 pub mod Destinations
 pub mod Results
 pub mod Channels
-pub mod Received
+pub mod Receiving
 pub mod OneBit
 pub mod Transfers
 pub mod PartNodes

@@ -6,7 +6,7 @@ use Rattle.hc_scope.specs.Statement.{destination, kept, received}
 use Rattle.hc_scope.specs.Reading.{scope_of}
 use Rattle.hc_evaluate.specs.Targets.{typed_read, destination_read}
 use Rattle.hc_evaluate.proofs.Steps.{err_then, value_then}
-use Rattle.hc_evaluate.proofs.Received.{kept_target}
+use Rattle.hc_evaluate.proofs.Receiving.{kept_target}
 use Rattle.hc_evaluate.proofs.Results.{if_ok_then}
 use Rattle.hc_evaluate.proofs.channel.received.Goals as goal
 
