@@ -1,5 +1,5 @@
 -- What a builder has collected, and the histories that it explains.
-use Rattle.std.specs.Prelude.{◌≡◌, ◌<◌, ℕ, suc, ◌+◌, ◌-◌, ◌^◌, List, [], ◌∷◌, ◌++◌, length, map, Bool, Some, None, slice_get, slice_index, slice_index_or, slice_set, min, All}
+use Rattle.std.specs.Prelude.{◌≡◌, ◌<◌, ℕ, suc, ◌+◌, ◌-◌, ◌^◌, List, [], ◌∷◌, ◌++◌, length, map, Bool, true, false, Option, Some, None, slice_get, slice_index, slice_index_or, slice_set, min, All}
 use Rattle.std.specs.List.{range_with_len}
 use Rattle.hc_net.specs.Bits.{bit}
 use Rattle.hc_net.specs.Gate.{gate_bit}
@@ -44,6 +44,18 @@ with_output c name pins from = record { clock = c.clock; ports = c.ports ++ port
 -- the node of a net; a net that isn't there is as a placeholder that isn't driven
 abbrev pub node_at : List Node → ℕ → Node
 node_at nodes k = slice_index_or nodes k (Wire 0 None)
+
+-- the constant that a node gives, if it is a gate that gives one
+abbrev pub constant_at : Node → Option Bool
+constant_at (Input p i) = None
+constant_at (Flop name init d) = None
+constant_at (Wire rank from) = None
+constant_at (Gate kind.Zero a b) = Some false
+constant_at (Gate kind.One a b) = Some true
+constant_at (Gate kind.Not a b) = None
+constant_at (Gate kind.And a b) = None
+constant_at (Gate kind.Or a b) = None
+constant_at (Gate kind.Xor a b) = None
 
 -- The bit of each net in each clock.
 abbrev pub History : Type 0

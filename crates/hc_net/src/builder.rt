@@ -2,7 +2,7 @@ ghost use Rattle.std.specs.Prelude.{◌≡◌, ◌<◌, ◌≤◌, ℕ, suc, ◌
 ghost use Rattle.std.specs.List.{range_with_len};
 ghost use Rattle.hc_net.specs.Gate.{gate_bit};
 ghost use Rattle.hc_net.specs.Run.{Trace};
-ghost use Rattle.hc_net.specs.Circuit.{Circuit, History, with_node, with_node_at, with_input, with_output, input_count, Explains, Extends, GateReadsBelow, IsUnfed, IsUndriven, node_at, reading, input_bits_of, input_nodes, NodeReadsWithin};
+ghost use Rattle.hc_net.specs.Circuit.{Circuit, History, with_node, with_node_at, with_input, with_output, input_count, Explains, Extends, GateReadsBelow, IsUnfed, IsUndriven, node_at, constant_at, reading, input_bits_of, input_nodes, NodeReadsWithin};
 ghost use Rattle.hc_net.specs.Seal.{IsSealable, Seals};
 ghost use Rattle.hc_net.specs.declared.node.Node.{Node};
 ghost use Rattle.hc_net.specs.declared.node.Node.TheVariants.{Flop, Wire, Gate};
@@ -187,6 +187,14 @@ impl Builder {
         ensures err { OnErr result (self.new ≡ self.old) }
     {
         self.add(Node::Gate { kind, a, b })
+    }
+
+    /// The constant that a net has in every clock by its gate, `Zero` or `One`; `None` for any other net.
+    pub fn constant(&self, net: u32) -> Option<bool>
+        requires { net < length self.now.nodes }
+        ensures { result ≡ constant_at (node_at self.now.nodes net) }
+    {
+        self.nodes.as_slice()[net as usize].constant()
     }
 
     /// The netlist: its ports and flip-flops in order, no more gates than were added, and each net with its bit.

@@ -1,5 +1,5 @@
 ghost use Rattle.std.specs.Prelude.{◌≡◌};
-ghost use Rattle.hc_net.specs.Circuit.{reading};
+ghost use Rattle.hc_net.specs.Circuit.{constant_at, reading};
 
 use crate::gate::GateKind;
 use crate::net::FlopName;
@@ -49,6 +49,25 @@ impl Node {
                 from: Some(net),
             },
             Node::Gate { kind, a, b } => Node::Gate { kind, a, b },
+        }
+    }
+
+    /// The constant that the node gives, if it is a gate that gives one.
+    pub(crate) fn constant(self) -> Option<bool>
+        ensures { result ≡ constant_at self }
+    {
+        match self {
+            Node::Input { .. } => None,
+            Node::Flop { .. } => None,
+            Node::Wire { .. } => None,
+            Node::Gate { kind, .. } => match kind {
+                GateKind::Zero => Some(false),
+                GateKind::One => Some(true),
+                GateKind::Not => None,
+                GateKind::And => None,
+                GateKind::Or => None,
+                GateKind::Xor => None,
+            },
         }
     }
 }
