@@ -12,10 +12,9 @@ ghost use Rattle.hc_scope.specs.Statement as spec;
 use crate::statements::Statements;
 use hc_core::{Stmt, Stmts};
 use hc_declare::locals;
-use hc_scope::{Scope, State, all_of, enter};
+use hc_scope::{Names, Scope, State, all_of, enter};
 use hc_tree as tree;
 use hc_tree::{Block, FrontErr};
-use indexmap::IndexMap;
 use std::alloc::Global;
 
 impl<
@@ -65,7 +64,7 @@ impl<
         ensures typed { IfOk result (λ parts. AllTyped (kinds_of state.new.objects) (statements parts)) }
         ensures grows { OnOk result (Grows state.old.objects state.new.objects) }
     {
-        let mut names = IndexMap::new(self.alloc);
+        let mut names = Names::new(self.alloc);
         let items = b.declared.as_slice();
         match locals(
             self.alloc, state, &mut names, scope, calls, self.room, items,

@@ -16,9 +16,8 @@ ghost use Rattle.hc_expand.specs.Spelled.{IsSpelled};
 use crate::statement::main_block;
 use hc_core::{Core, Stmt};
 use hc_declare::{Roots, each_item};
-use hc_scope::{Scope, State, all_of, broken_word};
+use hc_scope::{Names, Scope, State, all_of, broken_word};
 use hc_tree::{Block, FrontErr, Item, Name, Place, Rule, Tree};
-use indexmap::IndexMap;
 use sqlite_items::Items;
 use std::alloc::Global;
 
@@ -104,7 +103,7 @@ fn whole(alloc: Global, items: &[Item]) -> Result<Core, FrontErr>
         objects: Items::new(alloc),
         visited: 0,
     };
-    let mut names = IndexMap::new(alloc);
+    let mut names = Names::new(alloc);
     let outside = Scope::Outside;
     let none = Roots {
         clock: None,

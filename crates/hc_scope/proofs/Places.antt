@@ -7,12 +7,18 @@ use Rattle.std.proofs.lemmas.Cmp.{nat_list_eq_equiv}
 use Rattle.std.proofs.lemmas.Map.{NonePasses, none_passes_from_lookup}
 use Rattle.std.proofs.lemmas.Map.Keys.{IsDistinct-head, IsDistinct-tail}
 use Rattle.std.proofs.lemmas.Slice.Eq.{bytes_eq-Decides}
+use Rattle.std.specs.Prelude.{All, bit_or, ◌^◌, ◌*◌, ◌%◌}
+use Rattle.std.proofs.lemmas.Nat.Bits.{bit_at_or, bit_at-lt, bit_at_set_same}
+use Rattle.std.proofs.Common.{w64}
+use Rattle.std.specs.Int.{bit_at}
+use Rattle.std.proofs.lemmas.List.Elements.{All-nil, All-cons}
 use Rattle.indexmap.specs.IndexMap.{IndexMap, insert_entry}
 use Rattle.indexmap.proofs.CallerLemmas.{insert_entry-new}
 use Rattle.hc_tree.specs.declared.name.Ident.{Ident}
 use Rattle.hc_tree.specs.declared.expr.ExprTree.{ExprTree}
 use Rattle.hc_scope.specs.Scope.{Scope, Meaning, an_argument, opened, declared, find, is_declared}
 use Rattle.hc_scope.specs.Expression.{bound}
+use Rattle.hc_scope.specs.Marks.{mark_of, HasMarks}
 use Rattle.hc_scope.specs.Reading.{declared_of, declared_in, scope_in}
 use Rattle.hc_scope.specs.Places.{Passes, Declares, IsBoundAt, IsBound}
 use Rattle.hc_scope.specs.declared.scope.Declared.{Declared}
@@ -212,12 +218,51 @@ no_key name (x ∷ rest) around h =
     )
 
 -- a table that got a name which it didn't have
-pub declared-added : {S : Type 0} (m : IndexMap (Bor (List ℕ)) Declared S) (name : Bor (List ℕ)) (what : Declared) (es : List Entry) (around : Scope) → es ≡ insert_entry same m.entries name what
-    → is_declared name.now (scope_in m.entries around) ≡ false → scope_in es around ≡ declared name.now (declared_of what) (scope_in m.entries around)
-declared-added m name what es around grown fresh =
-    let absent = (no_key name.now m.entries (opened around) fresh).1 in
+pub declared-added : {S : Type 0} (m : IndexMap (Bor (List ℕ)) Declared S) (old : List Entry) (name : Bor (List ℕ)) (what : Declared) (es : List Entry) (around : Scope) → m.entries ≡ old → es ≡ insert_entry same m.entries name what
+    → is_declared name.now (scope_in old around) ≡ false → scope_in es around ≡ declared name.now (declared_of what) (scope_in old around)
+declared-added m old name what es around is grown fresh =
+    let here : is_declared name.now (scope_in m.entries around) ≡ false = ap (λ l. is_declared name.now (scope_in l around)) is ∙ fresh in
+    let absent = (no_key name.now m.entries (opened around) here).1 in
     ap (λ l. declared_in l (opened around)) (grown ∙ insert_entry-new same m name what absent) ∙ declared_in-push m.entries (name, what) (opened around)
+    ∙ ap (λ l. declared name.now (declared_of what) (scope_in l around)) is
+
+-- ---- marks
+
+keys_unmarked : (name : List ℕ) (marks : ℕ) (es : List Entry) → HasMarks marks es → bit_at marks (mark_of name) ≡ 0 → AllByRecursion (λ k. bytes_eq name k.now ≡ false) (keys_of es)
+keys_unmarked name marks [] all none = tt
+keys_unmarked name marks (e ∷ rest) all none =
+    (other (bytes_eq name e.0.now) refl, keys_unmarked name marks rest (λ i d within. all (suc i) d (omega (arith, within))) none)
+  where
+    other : (b : Bool) → bytes_eq name e.0.now ≡ b → bytes_eq name e.0.now ≡ false
+    other true is =
+        let first : bit_at marks (mark_of e.0.now) ≡ 1 = all 0 e (omega arith) in
+        let here : bit_at marks (mark_of name) ≡ 1 = ap (λ n. bit_at marks (mark_of n)) ((bytes_eq-Decides name e.0.now).0 is) ∙ first in
+        absurd (omega (arith, here, none))
+    other false is = is
+
+-- a name whose bit isn't set
+pub passes-unmarked : (name : List ℕ) (marks : ℕ) (es : List Entry) (n : ℕ) (around : Scope) → HasMarks marks es → bit_at marks (mark_of name) ≡ 0 → Passes name (declared_in (take n es) around) around
+passes-unmarked name marks es n around all none = none_among name es n around (keys_unmarked name marks es all none)
+
+-- the marks of a table that got a name
+pub marked-added : (old new : ℕ) (es : List Entry) (name : Bor (List ℕ)) (what : Declared) → HasMarks old es → ((i : ℕ) → bit_at old i ≡ 1 → bit_at new i ≡ 1) → bit_at new (mark_of name.now) ≡ 1
+    → HasMarks new (insert_entry same es name what)
+marked-added old new [] name what all stay is = All-cons (λ (e : Entry). bit_at new (mark_of e.0.now) ≡ 1) (name, what) [] is (All-nil (λ (e : Entry). bit_at new (mark_of e.0.now) ≡ 1))
+marked-added old new (e ∷ es) name what all stay is =
+    added (same name e.0) (all 0 e (omega arith)) (λ i d within. all (suc i) d (omega (arith, within))) (marked-added old new es name what (λ i d within. all (suc i) d (omega (arith, within))) stay is)
+  where
+    added : (b : Bool) → bit_at old (mark_of e.0.now) ≡ 1 → HasMarks old es → HasMarks new (insert_entry same es name what) → HasMarks new (if b then (e.0, what) ∷ es else e ∷ insert_entry same es name what)
+    added true first rest more = All-cons (λ (x : Entry). bit_at new (mark_of x.0.now) ≡ 1) (e.0, what) es (stay (mark_of e.0.now) first) (λ i d within. stay _ (rest i d within))
+    added false first rest more = All-cons (λ (x : Entry). bit_at new (mark_of x.0.now) ≡ 1) e (insert_entry same es name what) (stay (mark_of e.0.now) first) more
 
 pub only_first : (a : Bool) → (a || false) ≡ a
 only_first true = refl
 only_first false = refl
+
+-- ---- a mark that is set
+
+pub mark_stays : (marks more i : ℕ) → bit_at marks i ≡ 1 → bit_at (bit_or marks more) i ≡ 1
+mark_stays marks more i is = let both = bit_at_or marks more i in let low = bit_at-lt more i in omega (arith, both, low, is)
+
+pub mark_set : (marks k : ℕ) → k < 64 → bit_at (bit_or marks (1 * 2 ^ k % 2 ^ 64)) k ≡ 1
+mark_set marks k within = bit_at_set_same w64 marks k within

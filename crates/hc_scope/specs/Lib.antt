@@ -1,4 +1,5 @@
 pub mod Scope
+pub mod Marks
 pub mod Expansion
 pub mod Parts
 pub mod Expression

@@ -5,8 +5,8 @@ ghost use Rattle.hc_scope.specs.Reading.{declared_of};
 ghost use Rattle.hc_scope.specs.Statement as spec;
 ghost use Rattle.hc_scope.specs.Table.{context_in, AnswersNames};
 
-use crate::names::declare;
-use crate::scope::{Declared, Names, Scope};
+use crate::names::{Names, declare};
+use crate::scope::{Declared, Scope};
 use crate::state::State;
 use crate::table::fresh;
 use hc_tree::{FrontErr, Ident, Macro, NoMemory, Params, Place};

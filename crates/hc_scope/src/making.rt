@@ -11,9 +11,9 @@ ghost use Rattle.hc_scope.specs.Table.{context_in, AnswersNames};
 ghost use Rattle.hc_scope.specs.Reading.{scope_in};
 ghost use Rattle.hc_scope.specs.declared.scope.Scope.{Scope};
 
-use crate::names::declare;
+use crate::names::{Names, declare};
 use crate::refusal::broken;
-use crate::scope::{Declared, Names};
+use crate::scope::Declared;
 use crate::state::State;
 use crate::value_type::ValueType;
 use hc_core::{Kind, Nums, Object};

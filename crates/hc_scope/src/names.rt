@@ -1,14 +1,39 @@
 ghost use Rattle.std.specs.Prelude.{◌≡◌, ◌<◌, false, IfSome, OnOk, OnErr};
+ghost use Rattle.hc_scope.specs.Marks.{mark_of};
 ghost use Rattle.hc_scope.specs.Scope.{Scope as Chain, declared, is_declared};
 ghost use Rattle.hc_scope.specs.Reading.{scope_of, scope_in, declared_of};
 ghost use Rattle.hc_scope.specs.Places.{IsAmong};
 
-use crate::scope::{Declared, Names, Scope};
+use crate::marked::{Marked, mark};
+use crate::scope::{Declared, Scope};
 use hc_tree::NoMemory;
+use indexmap::IndexMap;
 
-/// The index of a name among the first so many names of a scope, with what it stands for.
+/// The names of one scope, in the order of their declarations.
+pub type Names<'t> = Marked<'t, Declared<'t>>;
+
+/// The index of a name with this mark among the first so many names of a scope, with what it stands for.
 pub(crate) fn find_among<'t>(
     names: &Names<'t>,
+    seen: usize,
+    name: &[u8],
+    mark: u32,
+) -> Option<(usize, Declared<'t>)>
+    requires mark { mark ≡ mark_of name.now }
+    requires small { mark < 64 }
+    ensures among { IsAmong name.now names.now.entries seen result }
+    ensures within { IfSome result (λ p. p.0 < seen) }
+{
+    if (names.marks >> mark) % 2 == 0 {
+        None
+    } else {
+        find_in(&names.table, seen, name)
+    }
+}
+
+/// The same in the table.
+fn find_in<'t>(
+    names: &IndexMap<&'t [u8], Declared<'t>>,
     seen: usize,
     name: &[u8],
 ) -> Option<(usize, Declared<'t>)>
@@ -33,7 +58,7 @@ pub(crate) fn find_among<'t>(
 pub fn all_of<'s, 't>(names: &'s Names<'t>, around: &'s Scope<'s, 't>) -> Scope<'s, 't>
     ensures { scope_of result ≡ scope_in names.now.entries (scope_of around.now) }
 {
-    Scope::Declares(names, names.len(), around)
+    Scope::Declares(names, names.count(), around)
 }
 
 /// Declares a name that its scope doesn't have yet.
@@ -47,8 +72,12 @@ pub fn declare<'t>(
         → scope_in names.new.entries around ≡ declared name.now (declared_of what.entry) (scope_in names.old.entries around)) }
     ensures kept { OnErr result (names.new.entries ≡ names.old.entries) }
 {
-    match names.insert(name, what) {
-        Ok(_old) => Ok(()),
+    let place = mark(name);
+    match names.table.insert(name, what) {
+        Ok(_old) => {
+            names.marks |= 1 << place;
+            Ok(())
+        }
         Err(_pair) => Err(NoMemory),
     }
 }

@@ -1,13 +1,14 @@
 ghost use Rattle.std.specs.Prelude.{◌≡◌, ◌+◌, ◌<◌, length, take};
+ghost use Rattle.hc_scope.specs.Marks.{mark_of};
 ghost use Rattle.hc_scope.specs.Scope.{opened, find, is_declared};
 ghost use Rattle.hc_scope.specs.Expression.{bound};
 ghost use Rattle.hc_scope.specs.Reading.{scope_of, declared_of, meaning_of, Finds};
 ghost use Rattle.hc_scope.specs.Places.{IsBound};
 
-use crate::names::find_among;
+use crate::marked::mark;
+use crate::names::{Names, find_among};
 use hc_tree::{Block, ExprTree, Ident};
 use hc_width::Whole;
-use indexmap::IndexMap;
 
 /// What a declared name stands for.
 #[derive(Clone, Copy)]
@@ -21,9 +22,6 @@ pub enum Declared<'t> {
     /// A macro procedure, with its parameters.
     Procedure(&'t [Ident], &'t Block),
 }
-
-/// The names of one scope, in the order of their declarations.
-pub type Names<'t> = IndexMap<&'t [u8], Declared<'t>>;
 
 /// A scope: a chain of declarations, the innermost first.
 #[cycle(scope)]
@@ -81,14 +79,23 @@ pub enum Named<'s, 't> {
 pub fn find<'s, 't>(scope: &Scope<'s, 't>, name: &[u8]) -> Option<Found<'s, 't>>
     ensures { Finds (find name.now (scope_of scope.now)) result }
 {
+    find_marked(scope, name, mark(name))
+}
+
+// The same for a name with this mark.
+fn find_marked<'s, 't>(scope: &Scope<'s, 't>, name: &[u8], mark: u32) -> Option<Found<'s, 't>>
+    requires mark { mark ≡ mark_of name.now }
+    requires small { mark < 64 }
+    ensures { Finds (find name.now (scope_of scope.now)) result }
+{
     match scope {
         Scope::Outside => None,
-        Scope::Declares(names, seen, around) => match find_among(names, *seen, name) {
+        Scope::Declares(names, seen, around) => match find_among(names, *seen, name, mark) {
             Some((at, declared)) => Some(Found {
                 meaning: meant(declared),
                 scope: Scope::Declares(names, at + 1, around),
             }),
-            None => find(around, name),
+            None => find_marked(around, name, mark),
         },
         Scope::Turn(x, number, around) => {
             if x.name.as_bytes() == name {
@@ -97,7 +104,7 @@ pub fn find<'s, 't>(scope: &Scope<'s, 't>, name: &[u8]) -> Option<Found<'s, 't>>
                     scope: Scope::Turn(x, number, around),
                 })
             } else {
-                find(around, name)
+                find_marked(around, name, mark)
             }
         }
         Scope::Binds(parameters, arguments, call, around) => {
@@ -106,7 +113,7 @@ pub fn find<'s, 't>(scope: &Scope<'s, 't>, name: &[u8]) -> Option<Found<'s, 't>>
                     meaning: Meaning::Argument(&arguments[at], call),
                     scope: binds_up_to(parameters, arguments, at, call, around),
                 }),
-                None => find(around, name),
+                None => find_marked(around, name, mark),
             }
         }
     }
@@ -132,7 +139,7 @@ pub(crate) fn is_declared(scope: &Scope<'_, '_>, name: &[u8]) -> bool
 {
     match scope {
         Scope::Outside => false,
-        Scope::Declares(names, seen, _around) => match find_among(names, *seen, name) {
+        Scope::Declares(names, seen, _around) => match find_among(names, *seen, name, mark(name)) {
             Some(_found) => true,
             None => false,
         },

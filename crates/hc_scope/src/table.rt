@@ -5,8 +5,9 @@ ghost use Rattle.hc_scope.specs.Scope as s;
 ghost use Rattle.hc_scope.specs.Table.{context_in};
 ghost use Rattle.hc_scope.specs.Reading.{scope_in};
 
+use crate::names::Names;
 use crate::refusal::broken_name;
-use crate::scope::{Names, Scope};
+use crate::scope::Scope;
 use crate::state::State;
 use hc_tree::{FrontErr, Ident, Rule};
 use std::alloc::Global;
@@ -34,5 +35,5 @@ pub fn fresh<'s, 't>(
 fn declares<'t>(names: &Names<'t>, name: &[u8]) -> bool
     ensures { (outer : s.Scope) → result ≡ s.is_declared name.now (scope_in names.now.entries outer) }
 {
-    names.contains_key(name)
+    names.table.contains_key(name)
 }

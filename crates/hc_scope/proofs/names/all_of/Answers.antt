@@ -7,5 +7,5 @@ use Rattle.hc_scope.proofs.names.all_of.Goals as goal
 
 pub returns : goal.returns
 returns c =
-    reads-Declares c.args.names c.len.result c.args.around
-    ∙ ap (λ l. declared_in l (opened (scope_of c.args.around.now))) (take_all c.len.result c.args.names.now.entries (omega arith))
+    reads-Declares c.args.names c.count.result c.args.around
+    ∙ ap (λ l. declared_in l (opened (scope_of c.args.around.now))) (take_all c.count.result c.args.names.now.entries (omega arith))

@@ -7,7 +7,7 @@ use Rattle.hc_scope.specs.Expression.{bound}
 use Rattle.hc_scope.specs.Reading.{scope_of}
 use Rattle.hc_scope.proofs.Places.{declares-declared, passes-declared}
 use Rattle.hc_scope.proofs.Chains.{reads-Outside, reads-Declares, reads-Turn, reads-Binds, finds_as, found_by}
-use Rattle.hc_scope.proofs.scope.+find.Goals as goal
+use Rattle.hc_scope.proofs.scope.+find_marked.Goals as goal
 
 pub returns-in-Outside : goal.returns-in-Outside
 returns-in-Outside t c = ap (λ x. find c.args.name.now (scope_of x)) c.in-Outside.is ∙ ap (find c.args.name.now) reads-Outside
@@ -22,7 +22,7 @@ returns-in-Some t c =
 pub returns-in-None : goal.returns-in-None
 returns-in-None t c =
     let is = ap scope_of c.in-Declares.is ∙ reads-Declares c.in-Declares.names c.in-Declares.seen c.in-Declares.around in
-    finds_as c.find.result (ap (find c.args.name.now) is ∙ (c.in-None.ensures.among (s.opened (scope_of c.in-Declares.around.now))).found) c.find.ensures
+    finds_as c.find_marked.result (ap (find c.args.name.now) is ∙ (c.in-None.ensures.among (s.opened (scope_of c.in-Declares.around.now))).found) c.find_marked.ensures
 
 pub returns-then-eq : goal.returns-then-eq
 returns-then-eq t c =
@@ -42,7 +42,7 @@ returns-else-eq t c =
     let around = s.opened (scope_of c.in-Turn.around.now) in
     let is = ap scope_of c.in-Turn.is ∙ reads-Turn c.in-Turn.x c.in-Turn.number c.in-Turn.around in
     let named : bytes_eq x.name name ≡ false = sym (c.eq.ensures ∙ ap (λ y. bytes_eq y name) c.as_bytes.ensures.bytes) ∙ c.if-eq.false in
-    finds_as c.find-else-eq.result (ap (find name) is ∙ (passes-declared name x.name _ around named).found) c.find-else-eq.ensures
+    finds_as c.find_marked-else-eq.result (ap (find name) is ∙ (passes-declared name x.name _ around named).found) c.find_marked-else-eq.ensures
 
 pub returns-in-Some-find_bound : goal.returns-in-Some-find_bound
 returns-in-Some-find_bound t c =
@@ -62,4 +62,4 @@ returns-in-None-find_bound t c =
     let call = scope_of c.in-Binds.call.now in
     let around = s.opened (scope_of c.in-Binds.around.now) in
     let is = ap scope_of c.in-Binds.is ∙ reads-Binds c.in-Binds.parameters c.in-Binds.arguments c.in-Binds.call c.in-Binds.around in
-    finds_as c.find-in-None-find_bound.result (ap (find name) is ∙ (c.in-None-find_bound.ensures call around).found) c.find-in-None-find_bound.ensures
+    finds_as c.find_marked-in-None-find_bound.result (ap (find name) is ∙ (c.in-None-find_bound.ensures call around).found) c.find_marked-in-None-find_bound.ensures
