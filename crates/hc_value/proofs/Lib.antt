@@ -6,3 +6,4 @@ pub mod Operators
 pub mod Typing
 pub mod Values
 pub mod Parts
+pub mod Fixed

@@ -1,8 +1,11 @@
 ghost use Rattle.std.specs.Prelude.{◌≡◌, ◌<◌, ◌+◌, ◌^◌, length, IfOk};
+ghost use Rattle.hc_num.specs.Number.{Number};
+ghost use Rattle.hc_core.specs.Program.{Constant};
 ghost use Rattle.hc_core.specs.Read.{expression};
 ghost use Rattle.hc_core.specs.Typed.{kinds_of, HasSomeType, width_of};
 ghost use Rattle.hc_core.specs.Weigh.{AreSound};
 ghost use Rattle.hc_core.specs.Weight.{expression_weight};
+ghost use Rattle.hc_value.specs.Moves.{constant_nets};
 ghost use Rattle.hc_value.specs.Objects.{HasConstants};
 ghost use Rattle.hc_value.specs.Operands.{CanValue, IsValue};
 ghost use Rattle.hc_value.specs.Reads.{HasNets, MakesValue};
@@ -21,7 +24,8 @@ use hc_net::{Builder, Nets, NoMemory};
 use std::alloc::Global;
 
 /// The nets of an expression's number, lowest bit first, as many as its width. The circuit has at most as many gates as the
-/// expression weighs; a constant and a shift, take, drop or cut by a constant add none.
+/// expression weighs; a constant and a shift, take, drop or cut by a constant add none. The nets of a constant are `zero` and
+/// `one`.
 pub fn value(
     alloc: Global,
     b: &mut Builder,
@@ -36,9 +40,18 @@ pub fn value(
     requires room { length b.old.nodes + expression_weight (kinds_of core.now.objects) (expression e.now) < 2 ^ 32 }
     ensures width { IfOk result (λ z. length z ≡ width_of (kinds_of core.now.objects) (expression e.now)) }
     ensures circuit { IfOk result (MakesValue (kinds_of core.now.objects) at.now (expression e.now) b.old b.new) }
+    ensures constant { IfOk result (λ z. (n : Number) → expression e.now ≡ Constant n → z ≡ constant_nets at.now.zero at.now.one n) }
 {
-    let z = valued(alloc, b, core.objects.as_slice(), at, e)?;
-    Ok(z.nets)
+    match e {
+        Expr::Const(n) => {
+            let z = constant(alloc, at.zero, at.one, n)?;
+            Ok(z.nets)
+        }
+        _ => {
+            let z = valued(alloc, b, core.objects.as_slice(), at, e)?;
+            Ok(z.nets)
+        }
+    }
 }
 
 /// The same with its sign. Operands come before their operator; what a constant moves or picks gets no gates.
