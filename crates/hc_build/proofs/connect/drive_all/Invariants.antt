@@ -1,0 +1,5 @@
+use Rattle.hc_build.specs.Sources.{ReadsFirst}
+use Rattle.hc_build.proofs.connect.drive_all.Given as goal
+
+abbrev pub invariant-loop-i : goal.invariant-loop-i
+invariant-loop-i l = ReadsFirst l.i l.nets l.from l.fn.b l.b
