@@ -1,37 +1,102 @@
 #!/usr/bin/env python3
-"""Prints seconds and peak memory of `hcc build` over first-form sources of doubling sizes, up to the limits.
+"""Prints seconds and peak memory of `hcc check` and `hcc build`, with the gates and the bytes of the netlist, over sources of
+doubling weight, up to the limit of 2,000,000.
 
-Usage: bench/build.py [HCC]      HCC is the program, crates/hcc/out/hcc if none is given
+Usage: bench/build.py [HCC [SHAPE..]]      HCC is the program, crates/hcc/out/hcc if none is given; all shapes if none is named
 """
-import os, tempfile
+import os, re, sys, tempfile
 
 import measure
 
+LIMIT = 2_000_000
 
-def source(registers, statements):
-    """A source with registers of 128 bits and statements that sum in turn."""
-    lines = ['set clock = external "clk";']
-    lines += [f"unsigned 128 r{k};" for k in range(registers)]
-    body = " ".join(f"r{i % registers} = r{(i + 1) % registers} + 1;" for i in range(statements))
-    return "\n".join(lines) + "\nvoid main(void) { " + body + " }\n"
+
+def source(declarations, statements):
+    """A source of a list of declarations and a list of statements, a line each."""
+    return "\n".join(['set clock = external "clk";'] + declarations + ["void main(void) {"] + statements + ["}", ""])
+
+
+def mixed(n):
+    """Arithmetic, arrays, inputs and outputs, in n parts alike."""
+    declarations, statements = [], []
+    for k in range(n):
+        declarations += [
+            f"interface bus_in(unsigned 16 x) i{k}();",
+            f"unsigned 16 a{k}; unsigned 16 b{k}; unsigned 16 t{k}[8];",
+            f"interface bus_out() o{k}(unsigned 16 y = t{k}[i{k}.x[2:0]] + b{k});",
+        ]
+        statements += [
+            f"a{k} = i{k}.x * b{k} + 1; t{k}[a{k}[2:0]] = a{k} ^ i{k}.x; b{k} = t{k}[i{k}.x[5:3]] >> a{k}[3:0];",
+            f"a{k} = a{k} < b{k} ? a{k} - b{k} : b{k};",
+        ]
+    return source(declarations, statements)
+
+
+def registers(n):
+    """n registers, each written once."""
+    return source([f"unsigned 8 r{k};" for k in range(n)], [f"r{k} = r{(k + 1) % n} + 3;" for k in range(n)])
+
+
+def writes(n):
+    """One register that is written n times."""
+    return source(["unsigned 32 r; unsigned 32 s;"], [f"r = {'r + s' if k % 8 == 0 else 's'};" for k in range(n)])
+
+
+def delays(n):
+    """n delays."""
+    return source([], ["delay;"] * n)
+
+
+def products(n):
+    """n products of 128 bits."""
+    return source(["unsigned 128 x;"], ["x = x * x;"] * n)
+
+
+def elements(n):
+    """An array of 512 elements, written and read n times at any index."""
+    return source(["unsigned 16 a[512]; unsigned 9 i;"], ["a[i] = a[a[i][8:0]];"] * n)
+
+
+def outputs(n):
+    """n outputs, each with its own expression."""
+    return source(["unsigned 64 x; unsigned 64 y;"] + [f"interface bus_out() o{k}(unsigned 64 z = (x & y) + x);" for k in range(n)], [])
+
+
+# each shape with the sizes over which it is measured, the last near the limit
+SHAPES = {
+    "mixed": (mixed, 440),
+    "registers": (registers, 13_500),
+    "writes": (writes, 13_800),
+    "delays": (delays, 41_600),
+    "products": (products, 15),
+    "elements": (elements, 30),
+    "outputs": (outputs, 3_100),
+}
 
 
 def main():
     program = measure.program()
-    print("registers statements seconds    MiB     bytes  line")
+    names = sys.argv[2:] or list(SHAPES)
+    print("shape          n   weight | check s    MiB | build s    MiB    gates     bytes  line")
     with tempfile.TemporaryDirectory() as folder:
         name, out = os.path.join(folder, "a.hc"), os.path.join(folder, "a.edif")
-        for registers, statements in [(1, 1), (6, 12), (12, 25), (25, 50), (50, 100), (100, 200)]:
-            with open(name, "w") as file:
-                file.write(source(registers, statements))
-            seconds, peak, status, printed = measure.run([program, "build", name, "--edif", out])
-            size = os.path.getsize(out) if status == 0 else 0
-            print(f"{registers:9} {statements:10} {seconds:7.3f} {peak / 1024:6.1f} {size:9}  {status} {printed}")
+        for shape in names:
+            make, most = SHAPES[shape]
+            for size in sorted({max(1, most >> k) for k in range(5)}):
+                with open(name, "w") as file:
+                    file.write(make(size))
+                check_seconds, check_peak, _, line = measure.run([program, "check", name])
+                weight = re.search(r"weight (\d+)", line)
+                seconds, peak, status, printed = measure.run([program, "build", name, "--edif", out])
+                gates = re.search(r"gates (\d+)", printed)
+                size_of = os.path.getsize(out) if status == 0 else 0
+                print(f"{shape:9} {size:6} {weight.group(1) if weight else line:>8} | {check_seconds:7.3f} {check_peak / 1024:6.1f}"
+                      f" | {seconds:7.3f} {peak / 1024:6.1f} {gates.group(1) if gates else '':>8} {size_of:9}  {status} {printed}")
         for size in [1 << 16, 1 << 18, 1 << 20, 1 << 22]:
             with open(name, "w") as file:
                 file.write(" " * (size - 1) + "$")
             seconds, peak, status, printed = measure.run([program, "build", name, "--edif", out])
-            print(f"blanks {size:13} {seconds:7.3f} {peak / 1024:6.1f}            {status} {printed}")
+            print(f"blanks {size:9}          |                | {seconds:7.3f} {peak / 1024:6.1f} {'':8} {'':9}  {status} {printed}")
 
 
 main()

@@ -16,7 +16,7 @@ use Rattle.hc_net.specs.declared.net.RawNet.{RawNet}
 use Rattle.hc_run.specs.declared.due.Due.{Due}
 use Rattle.hc_run.specs.declared.due.Due.TheVariants.{Built, Checked, Refused, Usage, ReadFault, Longer}
 use Rattle.hc_net.specs.Valid.{IsValid}
-use Rattle.hc_run.specs.Headline.{Implements}
+use Rattle.hc_build.specs.Implements.{IsNetlistOf}
 use Rattle.hc_run.specs.Lines.{built_line, checked_line}
 use Rattle.hc_run.specs.Words.{IsBuild, IsCheck, Loads, to_build, to_check}
 use Rattle.hc_run.specs.declared.status.Role.TheVariants.{Source}
@@ -132,8 +132,8 @@ files-loaded first (inr h) = inr (HoldsFront-loaded first h)
 
 -- what is known once the source is loaded and has a netlist
 compiles : (words : List (List ℕ)) (file name bytes : List ℕ) (core : Core) (raw : RawNet) (x : StoreState) → IsBuild words file name
-    → IsFile x.disk file bytes → length bytes ≤ source_limit → Accepted bytes core → Implements core raw → IsValid raw → Compiles words x name raw
-compiles words file name bytes core raw x job source within accepted implements valid = record {
+    → IsFile x.disk file bytes → length bytes ≤ source_limit → Accepted bytes core → IsNetlistOf core raw → IsValid raw → Compiles words x name raw
+compiles words file name bytes core raw x job source within accepted netlist valid = record {
   file = file;
   job = job;
   bytes = bytes;
@@ -141,7 +141,7 @@ compiles words file name bytes core raw x job source within accepted implements 
   within = within;
   core = core;
   accepted = accepted;
-  implements = implements;
+  netlist = netlist;
   valid = valid;
 }
 
@@ -182,7 +182,7 @@ no_memory-loaded words x y z result files is h = subst (Performs words x z) (sym
 pub Performs-compiled : (words : List (List ℕ)) (file name bytes : List ℕ) (x y z : StoreState) (result : Result Due WriteErr) → IsBuild words file name
     → IsFile x.disk file bytes → length bytes ≤ source_limit → SameFiles x y → MovesReads x y → CompilesSource bytes name y z result → Performs words x z result
 Performs-compiled words file name bytes x y z result job source within files counts (inl h) = elim h.builds [
-  | inl b ↦ saves-loaded words name b.raw x y z result (compiles words file name bytes h.core b.raw x job source within h.accepted b.implements b.valid) files counts b.saves
+  | inl b ↦ saves-loaded words name b.raw x y z result (compiles words file name bytes h.core b.raw x job source within h.accepted b.netlist b.valid) files counts b.saves
   | inr b ↦ no_memory-loaded words x y z result files b.0 b.1
 ]
 Performs-compiled words file name bytes x y z result job source within files counts (inr (inl h)) = subst (Performs words x z) (sym h.is) (record {

@@ -20,7 +20,7 @@ use Rattle.hc_scope.specs.Expands as expansion
 use Rattle.hc_expand.specs.Spelled.{IsSpelled}
 use Rattle.hc_rules.specs.Weight.{most_weight, too_heavy}
 use Rattle.hc_run.specs.Answer.{IsSource, Accepted, BreaksTokens, FirstOfCore, of_weight, of_form, not_built, FirstOfTokens, of_grammar, of_tree, of_core, First, of_bytes, of_tokens, IfRefusal, HasCore, HasRefusal}
-use Rattle.hc_run.specs.Built.{unbuilt, IsBuildable}
+use Rattle.hc_build.specs.Built.{unbuilt, IsBuildable}
 use Rattle.hc_run.specs.Source.{IsTreeOf, FirstOfTree, of_expansion, of_expanded, IsUnbuilt}
 
 -- ---- the tokens of a source spell its tree as `expand` asks

@@ -25,9 +25,9 @@ use Rattle.hc_net.specs.Valid.{IsValid}
 use Rattle.hc_run.specs.declared.status.Role.{Role}
 use Rattle.hc_run.specs.declared.status.Status.{Status}
 use Rattle.hc_run.specs.declared.status.Status.TheVariants.{Done, Refused, Usage, ReadFault, WriteFault, NoMemory, Longer}
-use Rattle.hc_run.specs.Built.{unbuilt}
+use Rattle.hc_build.specs.Built.{unbuilt}
 use Rattle.hc_run.specs.Edif.{edif}
-use Rattle.hc_run.specs.Headline.{Implements}
+use Rattle.hc_build.specs.Implements.{IsNetlistOf}
 use Rattle.hc_run.specs.Words.{IsBuild, IsCheck, Loads, HasNoJob}
 use Rattle.hc_run.specs.Refused.{refusal_line}
 use Rattle.hc_run.specs.Lines.{built_line, checked_line, usage_line, read_fault_line, longer_line}
@@ -106,7 +106,7 @@ pub record HasRefusal (bytes : List ℕ) : Type 0 where
   pub refusal : Refusal
   pub first : First bytes refusal
 
--- The words name a job and its netlist file, the source is there within its limit, and the netlist does what it says.
+-- The words name a job and its netlist file, the source is there within its limit, and the netlist is one of its core.
 pub record Compiles (words : List (List ℕ)) (old : StoreState) (name : List ℕ) (raw : RawNet) : Type 0 where
   pub file : List ℕ
   pub job : IsBuild words file name
@@ -115,7 +115,7 @@ pub record Compiles (words : List (List ℕ)) (old : StoreState) (name : List �
   pub within : length bytes ≤ source_limit
   pub core : Core
   pub accepted : Accepted bytes core
-  pub implements : Implements core raw
+  pub netlist : IsNetlistOf core raw
   pub valid : IsValid raw
 
 -- a disk whose file of that name has these bytes, all other files being as before; none is open

@@ -1,14 +1,13 @@
 -- What the steps from the tree of a source to its core hand on to each other.
-use Rattle.std.specs.Prelude.{◌≡◌, ◌≤◌, ◌==◌, Bool, false, Some, None}
+use Rattle.std.specs.Prelude.{◌≡◌, ◌≤◌, Some, None}
 use Rattle.hc_tree.specs.declared.item.Tree.{Tree}
 use Rattle.hc_tree.specs.declared.place.Place.{Place}
 use Rattle.hc_tree.specs.declared.refusal.Refusal.{Refusal}
-use Rattle.hc_core.specs.Program.{Expression, Constant}
 use Rattle.hc_core.specs.Weight.{weight_of}
 use Rattle.hc_core.specs.declared.object.Core.{Core}
 use Rattle.hc_scope.specs.Expands.{Expands, Stops}
 use Rattle.hc_rules.specs.Weight.{most_weight}
-use Rattle.hc_run.specs.Built.{unbuilt}
+use Rattle.hc_build.specs.Built.{unbuilt}
 use Rattle.hc_run.specs.Answer.{FirstOfCore, not_built}
 
 -- The tree expands to this core, which is within the limit of the weight and of built forms alone.
@@ -27,8 +26,3 @@ pub record IsUnbuilt (core : Core) (refusal : Refusal) : Type 0 where
   pub place : Place
   pub first : unbuilt core ≡ Some place
   pub is : refusal ≡ not_built place
-
--- the constant 1
-abbrev pub is_constant_one : Expression → Bool
-is_constant_one (Constant n) = n.bits == 1
-is_constant_one _ = false

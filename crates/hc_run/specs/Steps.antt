@@ -16,7 +16,7 @@ use Rattle.hc_run.specs.declared.status.Status.TheVariants as status
 use Rattle.hc_run.specs.declared.due.Due.{Due}
 use Rattle.hc_run.specs.declared.due.Due.TheVariants.{Built, Checked, Refused, Usage, ReadFault, Longer}
 use Rattle.hc_run.specs.Edif.{edif}
-use Rattle.hc_run.specs.Headline.{Implements}
+use Rattle.hc_build.specs.Implements.{IsNetlistOf}
 use Rattle.hc_run.specs.Refused.{refusal_line}
 use Rattle.hc_run.specs.Lines.{built_line, checked_line, usage_line, read_fault_line, longer_line}
 use Rattle.hc_run.specs.Answer.{Accepted, First, Saved, files_of, HoldsFront, IsDue, IsWriteFault, IsNoMemory, IsCutOff}
@@ -68,7 +68,7 @@ Saves raw name old new (Err write.NoMemory) = SameFiles old new ⊎ HoldsFront n
 -- The netlist does what the core does, and this is how it was saved.
 pub record SavesNet (core : Core) (name : List ℕ) (old new : StoreState) (result : Result Due WriteErr) : Type 0 where
   pub raw : RawNet
-  pub implements : Implements core raw
+  pub netlist : IsNetlistOf core raw
   pub valid : IsValid raw
   pub saves : Saves raw name old new result
 

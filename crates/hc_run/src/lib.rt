@@ -1,9 +1,8 @@
-//! The jobs of `hcc`, and the top call.
+//! The jobs of `hcc`, and the top call; and the core of a source, by itself.
 #![tactic(auto)]
 
 mod build_job;
 mod check_job;
-mod circuits;
 mod due;
 mod edif;
 mod laws;
@@ -14,9 +13,9 @@ mod status;
 mod tests;
 mod text;
 mod top;
-mod unbuilt;
 mod words;
 
 pub use laws::{core_or_refusal, never_both, one_core, one_first_refusal};
+pub use source::{SOURCE_LIMIT, read_source};
 pub use status::{Role, Status};
 pub use top::hcc;

@@ -8,24 +8,26 @@ ghost use Rattle.hc_core.specs.Sound.{IsSound};
 ghost use Rattle.hc_core.specs.Weight.{weight_of};
 ghost use Rattle.hc_rules.specs.Weight.{most_weight};
 ghost use Rattle.hc_run.specs.Answer.{source_limit, IsSource, Accepted, FirstOfCore, FirstOfTokens, First, IfRefusal};
-ghost use Rattle.hc_run.specs.Built.{unbuilt, IsBuildable};
-ghost use Rattle.hc_run.specs.Source.{IsTreeOf, FirstOfTree};
+ghost use Rattle.hc_build.specs.Built as built;
+ghost use Rattle.hc_build.specs.Built.{IsBuildable};
+ghost use Rattle.hc_run.specs.Answer as answer;
+ghost use Rattle.hc_run.specs.Source.{IsTreeOf, FirstOfTree, IsUnbuilt};
 
-use crate::unbuilt::check_built;
+use hc_build::unbuilt;
 use hc_core::Core;
 use hc_expand::expand;
 use hc_lex::{Tokens, lex, tokens_are_plain};
 use hc_parse::parse;
 use hc_rules::check_weight;
-use hc_tree::{FrontErr, Refusal, Tree};
+use hc_tree::{Detail, FrontErr, Place, Refusal, Rule, Tree};
 use std::alloc::Global;
 
 /// How many bytes a source may have: 4 MiB.
-pub(crate) const SOURCE_LIMIT: u64 = 4_194_304;
+pub const SOURCE_LIMIT: u64 = 4_194_304;
 
 /// The core of a source, or its first refusal: S1, L1 or L2 of its bytes, then S3, L3 or S2 of its tokens, then the first
 /// of S23, S4 to S15, S24, L4 to L7 and L9 of its tree, and then L8 and `NotBuilt` of its core.
-pub(crate) fn read_source(alloc: Global, bytes: &[u8]) -> Result<Core, FrontErr>
+pub fn read_source(alloc: Global, bytes: &[u8]) -> Result<Core, FrontErr>
     requires { length bytes.now ≤ source_limit }
     ensures accepted { IfOk result (Accepted bytes.now) }
     ensures buildable { IfOk result IsBuildable }
@@ -81,11 +83,34 @@ fn checked(core: Core) -> Result<Core, FrontErr>
 fn check_core(core: &Core) -> Result<(), Refusal>
     requires { IsSound core.now }
     ensures light { IfOk result (λ _. weight_of core.now ≤ most_weight) }
-    ensures built { IfOk result (λ _. unbuilt core.now ≡ None) }
+    ensures built { IfOk result (λ _. built.unbuilt core.now ≡ None) }
     ensures refused { IfErr result (FirstOfCore core.now) }
 {
     match check_weight(core) {
         Ok(()) => check_built(core),
         Err(refusal) => Err(refusal),
+    }
+}
+
+/// That a core is of built forms alone, or `NotBuilt` at the first that isn't. The rule is this project's own, and serves
+/// only until all forms are built.
+fn check_built(core: &Core) -> Result<(), Refusal>
+    ensures built { IfOk result (λ _. built.unbuilt core.now ≡ None) }
+    ensures refused { IfErr result (IsUnbuilt core.now) }
+{
+    match unbuilt(core) {
+        None => Ok(()),
+        Some(place) => Err(not_built(place)),
+    }
+}
+
+/// The refusal of what isn't built.
+fn not_built(place: Place) -> Refusal
+    ensures { result ≡ answer.not_built place }
+{
+    Refusal {
+        rule: Rule::NotBuilt,
+        place,
+        detail: Detail::Nothing,
     }
 }

@@ -7,7 +7,7 @@ use std::alloc::Global;
 use std::test::Fail;
 
 mod rules;
-mod sources;
+pub(crate) mod sources;
 
 const FIRST: &[u8] =
     b"set clock = external \"clk\";\nunsigned 4 x;\nvoid main(void) { x = 5; delay; x = x + 1; }\n";
@@ -20,7 +20,7 @@ const BUILD: &str = "build first.hc --edif first.edif";
 
 const CHECK: &str = "check first.hc";
 
-const BUILT: &[u8] = b"built: gates 48, flip-flops 8, rams 0\n";
+const BUILT: &[u8] = b"built: gates 38, flip-flops 7, rams 0\n";
 
 const CHECKED: &[u8] = b"objects 1, weight 344, flip-flops 8\n";
 
@@ -72,9 +72,9 @@ fn builds_the_first_example(rt: HostRuntime) -> Result<(), Fail> {
     assert_eq!(rt; line.as_slice(), BUILT);
     assert_eq!(rt; store.get("first.hc"), Some(FIRST));
     let text = store.get("first.edif").ok_or("no EDIF file")?;
-    assert_eq!(rt; count(text, b"(instance g"), 48);
-    assert_eq!(rt; count(text, b"(instance "), 56);
-    assert_eq!(rt; count(text, b"(cellRef HC_DFF"), 8);
+    assert_eq!(rt; count(text, b"(instance g"), 38);
+    assert_eq!(rt; count(text, b"(instance "), 45);
+    assert_eq!(rt; count(text, b"(cellRef HC_DFF"), 7);
     assert_eq!(rt; count(text, b"("), count(text, b")"));
     assert!(rt;
         text.starts_with(
@@ -115,7 +115,7 @@ fn checks_the_first_example(rt: HostRuntime) -> Result<(), Fail> {
 /// Sources that are refused, and the rule and place. No such job makes a file.
 const REFUSED: [(&[u8], &str); 9] = [
     (
-        b"set clock = external \"clk\";\nunsigned 4 x;\nvoid main(void) { x = x + 2; }\n",
+        b"set clock = external \"clk\";\nunsigned 4 x;\nvoid main(void) { par { x = 2; } }\n",
         "NotBuilt at 3:19",
     ),
     (

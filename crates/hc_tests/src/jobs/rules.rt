@@ -60,7 +60,7 @@ macro proc f(n) { f(n); }|f(1);~>L4 at 2:19#\
 macro expr g = g + 1; unsigned 4 x;|x = g;~>L4 at 2:16#\
 unsigned 1 a[4097];|~>L9 at 2:12#\
 macro proc f() { unsigned 1 b[5000]; }|f();~>L9 at 2:29#\
-unsigned 1 a[4096];|~>NotBuilt at 2:12#\
+unsigned 1 a[4096];|~>objects#\
 unsigned 8 x; int 4 s;|x = x + s;~>S9 at 3:23: 8 4#\
 rom unsigned 8 r[8193] = {256};|~>S11 at 2:27#\
 chan unsigned 4 c;|c[q] = 1;~>S6 at 3:19: c#\
@@ -149,13 +149,13 @@ fn names_the_first_node_too_deep(rt: HostRuntime) -> Result<(), Fail> {
     Ok(())
 }
 
-/// A product of so many registers, which weighs 131,072 for each operator.
+/// A product of so many registers, which weighs 131,072 for each operator, where a wait isn't built.
 #[test]
 fn names_the_weight_before_what_is_not_built(rt: HostRuntime) -> Result<(), Fail> {
     let alloc = rt.alloc();
     for (operators, want) in [(15, "NotBuilt at 3:19"), (16, "L8 at 1:1")] {
         let factors = repeated(alloc, " * x", operators)?;
-        let statements = format!(in alloc; "x = x{factors};")?;
+        let statements = format!(in alloc; "while (x) x = x{factors};")?;
         let whole = source(alloc, "unsigned 128 x;", statements.as_str())?;
         assert_eq!(rt; shown(alloc, CHECK, whole.as_str())?.as_str(), want);
     }

@@ -20,23 +20,23 @@ unsigned 4 x;|  x++;~>built:#\
 signed 4 x;|x = -8; { x = 7; ; }~>built:#\
 unsigned 4 x; static unsigned 4 y = 3;|x = y;~>built:#\
 unsigned 4 x;|seq (i = 0; i < 3; ++i) { x = i; }~>built:#\
-unsigned 4 x;|x = x + 2;~>NotBuilt at 3:19#\
-unsigned 4 x;|x = x + 0x2;~>NotBuilt at 3:19#\
-unsigned 4 x; unsigned 4 y;|x = y + 2;~>NotBuilt at 3:19#\
-unsigned 4 x; unsigned 4 y;|x = 1 + y;~>NotBuilt at 3:19#\
-unsigned 4 x;|x = x + x;~>NotBuilt at 3:19#\
-unsigned 4 x;|x = x - 1;~>NotBuilt at 3:19#\
-unsigned 4 x;|delay; x += 2;~>NotBuilt at 3:26#\
+unsigned 4 x;|x = x + 2;~>built:#\
+unsigned 4 x; unsigned 4 y;|x = 1 + y; x = x * x - 1;~>built:#\
+unsigned 4 x;|delay; x += 2;~>built:#\
+unsigned 4 a[3];|~>built:#\
+unsigned 8 x; unsigned 4 y;|x = (unsigned 4) 0 @ y;~>built:#\
+unsigned 4 x; interface bus_out() o(unsigned 4 y = x);|~>built:#\
+interface bus_in(unsigned 4 y) i(); unsigned 4 a[3];|a[i.y[1:0]] = i.y;~>built:#\
+unsigned 4 x;|par { x = 2; }~>NotBuilt at 3:19#\
 unsigned 4 x;|delay; par { x = 1; delay; }~>NotBuilt at 3:26#\
 unsigned 4 x;|if (x) x = 1;~>NotBuilt at 3:19#\
-unsigned 4 x;|{ delay; if (x) x = 1; } x = x + 2;~>NotBuilt at 3:28#\
+unsigned 4 x;|{ delay; if (x) x = 1; } while (x) delay;~>NotBuilt at 3:28#\
 unsigned 4 x;|par { if (x) delay; }~>NotBuilt at 3:19#\
 unsigned 4 x;|while (x) delay;~>NotBuilt at 3:19#\
-unsigned 4 a[3];|~>NotBuilt at 2:12#\
 unsigned 4 x; ram unsigned 4 m[4]; chan unsigned 4 c;|~>NotBuilt at 2:30#\
-unsigned 4 x; interface bus_out() o(unsigned 4 y = x);|~>NotBuilt at 2:35#\
-unsigned 4 x; unsigned 4 a[3];|x = x + 2;~>NotBuilt at 2:26#\
-unsigned 4 x;|unsigned 2 a[2]; x = x + 2;~>NotBuilt at 3:30#\
+signal unsigned 4 s; interface bus_out() o(unsigned 4 y = s);|~>NotBuilt at 2:19#\
+unsigned 4 x; signal unsigned 4 s;|if (x) x = s;~>NotBuilt at 2:33#\
+unsigned 4 x;|ram unsigned 2 m[2]; if (x) x = 2;~>NotBuilt at 3:34#\
 unsigned 4 x;|x = 16;~>S11 at 3:19#\
 unsigned 4 x;|x = 0x10;~>S11 at 3:19#\
 unsigned 4 x;|y = 5;~>S4 at 3:19: y#\
@@ -78,7 +78,7 @@ set clock = external clk; void main(void) { }~>S2 at 1:22#\
 set clock = external \"clk\"; void main(void) { } void~>S2 at 1:53";
 
 /// A source with these declarations from 2:1 on, and these statements from 3:19 on.
-pub(super) fn source(
+pub(crate) fn source(
     alloc: Global,
     declarations: &str,
     statements: &str,
