@@ -6,9 +6,7 @@ pub mod StatementBounds
 pub mod StatementOperands
 pub mod Listing
 pub mod ObjectBounds
-pub mod Straight
 pub mod RowsSound
 pub mod RowsWeight
 pub mod RowsZero
 pub mod RowsDepends
-pub mod RowsClock

@@ -7,7 +7,6 @@ use Rattle.hc_core.specs.Program.{Expression, Constant, Register, Word, Unary, B
 use Rattle.hc_core.specs.Read.{expression, target, statement, statements_in}
 use Rattle.hc_core.specs.Typed.{IsNumber, IsAmount, Typed, constant, register, arithmetic, taking, dropping, slice, width_of, sign_of}
 use Rattle.hc_core.specs.Sound.{IsKind, IsSound}
-use Rattle.hc_core.specs.Built.{IsBuilt, IsBuiltKind}
 use Rattle.hc_core.specs.declared.expr.UnOp.TheVariants.{IsZero, ToSigned}
 use Rattle.hc_core.specs.declared.expr.BinOp.TheVariants.{Add, Lt, Shl, Concat, Take, Drop, Both}
 use Rattle.hc_core.specs.declared.expr.Expr.TheVariants as e
@@ -63,7 +62,7 @@ rest_typed = dropping Drop x (number 128 2) 5 true refl x_typed amount (lit< tt)
 bits_typed : Typed kinds (Slice x 3 1) 3 false
 bits_typed = slice x 3 1 5 true x_typed (lit≤ tt) (lit< tt)
 
--- `unsigned 4 x;` with `x = 5; delay; x = x + 1;` is sound, and of the forms that are built
+-- `unsigned 4 x;` with `x = 5; delay; x = x + 1;` is sound
 abbrev first_core : Core
 first_core = record {
   objects = record { name = 120 ∷ []; place = here; kind = kind.Reg 4 false (number 4 0) } ∷ [];
@@ -82,12 +81,6 @@ kind_sound zero found h =
     let same : kind.Reg 4 false (number 4 0) ≡ found = cc in
     subst (λ (o : Kind). IsKind first_kinds o) same (record { number = small 0 (lit< tt); width = refl; signed = refl })
 kind_sound (suc k) found h = absurd (let no : slice_get first_kinds (suc k) ≡ Some found = h in cc)
-
-kind_built : (k : ℕ) (found : Kind) → slice_get first_kinds k ≡ Some found → IsBuiltKind found
-kind_built zero found h =
-    let same : kind.Reg 4 false (number 4 0) ≡ found = cc in
-    subst (λ (o : Kind). IsBuiltKind o) same tt
-kind_built (suc k) found h = absurd (let no : slice_get first_kinds (suc k) ≡ Some found = h in cc)
 
 register_typed : Typed first_kinds (Register 0) 4 false
 register_typed = register 0 4 false _ refl
@@ -108,7 +101,3 @@ first_sound = record {
   clock = refl;
   few = lit< tt;
 }
-
-first_built : IsBuilt first_core
-unfolding statement statements_in target expression eb.hidden-the_row-Expr-0 sb.hidden-the_row-Stmt-2 denote.Hole.Carrier.hidden
-first_built = record { objects = kind_built; main = ((tt, tt), (tt, ((tt, (tt, tt, tt)), tt))) }

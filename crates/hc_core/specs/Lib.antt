@@ -8,8 +8,3 @@ pub mod Instant
 pub mod Depends
 pub mod Weight
 pub mod Weigh
-pub mod Built
-pub mod Residual
-pub mod Clock
-pub mod Run
-pub mod Straight
