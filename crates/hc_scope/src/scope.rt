@@ -79,10 +79,42 @@ pub enum Named<'s, 't> {
 pub fn find<'s, 't>(scope: &Scope<'s, 't>, name: &[u8]) -> Option<Found<'s, 't>>
     ensures { Finds (find name.now (scope_of scope.now)) result }
 {
-    find_marked(scope, name, mark(name))
+    let mark = mark(name);
+    find_marked(passed(scope, name, mark), name, mark)
 }
 
-// The same for a name with this mark.
+// The chain from the innermost scope on that has a name with this mark, or from the outside: the name stands for the same in
+// it. Most scopes that don't have the name are passed over by one bit.
+fn passed<'a, 's, 't>(scope: &'a Scope<'s, 't>, name: &[u8], mark: u32) -> &'a Scope<'s, 't>
+    requires mark { mark ≡ mark_of name.now }
+    requires small { mark < 64 }
+    ensures { find name.now (scope_of result.now) ≡ find name.now (scope_of scope.now) }
+{
+    match scope {
+        Scope::Outside => scope,
+        Scope::Declares(names, seen, around) => {
+            match find_among(names, *seen, name, mark) {
+                Some(_found) => scope,
+                None => passed(around, name, mark),
+            }
+        }
+        Scope::Turn(x, _number, around) => {
+            if x.name.as_bytes() == name {
+                scope
+            } else {
+                passed(around, name, mark)
+            }
+        }
+        Scope::Binds(parameters, arguments, _call, around) => {
+            match find_bound(parameters, arguments, name) {
+                Some(_at) => scope,
+                None => passed(around, name, mark),
+            }
+        }
+    }
+}
+
+// What a name with this mark stands for.
 fn find_marked<'s, 't>(scope: &Scope<'s, 't>, name: &[u8], mark: u32) -> Option<Found<'s, 't>>
     requires mark { mark ≡ mark_of name.now }
     requires small { mark < 64 }
