@@ -225,7 +225,10 @@ fn output<'s, 't>(
                 };
                 declare_port(alloc, state, names, around, calls, x, port, kind)
             }
-            Err(e) => Err(e),
+            Err(e) => {
+                drop(value);
+                Err(e)
+            }
         },
         Err(e) => Err(e),
     }

@@ -183,9 +183,15 @@ fn assignment_to<'s, 't>(
                     target,
                     value,
                 }),
-                Err(e) => Err(e),
+                Err(e) => {
+                    drop(target);
+                    Err(e)
+                }
             },
-            Err(e) => Err(e),
+            Err(e) => {
+                drop(target);
+                Err(e)
+            }
         },
         Err(e) => Err(e),
     }
@@ -239,7 +245,10 @@ fn combined<'s, 't>(
     match value_of(alloc, state, calls, room, d) {
         Ok(x) => match right_side(alloc, state, scope, calls, room, v) {
             Ok(v) => binary(alloc, &state.objects, op, x, v, place),
-            Err(e) => Err(e),
+            Err(e) => {
+                drop(x);
+                Err(e)
+            }
         },
         Err(e) => Err(e),
     }

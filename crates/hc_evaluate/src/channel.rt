@@ -195,8 +195,10 @@ fn same_type(t: ValueType, of: ValueType, place: Place, to: Target) -> Result<Ta
     ensures same { IfOk result (λ found. found ≡ to) }
 {
     if t.width != of.width {
+        drop(to);
         Err(widths_differ(t.width, of.width, place))
     } else if t.signed != of.signed {
+        drop(to);
         Err(broken(Rule::S10, place))
     } else {
         Ok(to)

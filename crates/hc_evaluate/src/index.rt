@@ -66,6 +66,7 @@ fn typed_index(state: &State, length: u32, e: Expr, place: Place) -> Result<Expr
 {
     let (width, signed) = type_of(&state.objects, &e);
     if width != aw(length) || signed {
+        drop(e);
         Err(broken(Rule::S15, place))
     } else {
         Ok(e)
@@ -182,7 +183,10 @@ fn bit_of(
 {
     match needs_constant(i, place_of(at)) {
         Ok(n) => cut(alloc, &state.objects, v, n, n, place),
-        Err(e) => Err(e),
+        Err(e) => {
+            drop(v);
+            Err(e)
+        }
     }
 }
 
@@ -336,7 +340,10 @@ impl<
         match self.before_index(state, scope, calls, of) {
             Ok(shown) => match self.expression(state, scope, calls, at) {
                 Ok(i) => index_of(self.alloc, state, place, at, shown, i),
-                Err(e) => Err(e),
+                Err(e) => {
+                    drop(shown);
+                    Err(e)
+                }
             },
             Err(e) => Err(e),
         }

@@ -68,6 +68,7 @@ fn measured(state: &State, v: Value, place: Place) -> Result<Value, FrontErr>
         Value::Constant(_) => Err(broken(Rule::S12, place)),
         Value::Typed(e) => {
             let (width, _) = type_of(&state.objects, &e);
+            drop(e);
             Ok(Value::Constant(Whole::from_number(u128::from(width))))
         }
     }
@@ -156,9 +157,15 @@ impl<
             Ok(v) => match self.constant(state, scope, calls, high) {
                 Ok(high) => match self.constant(state, scope, calls, low) {
                     Ok(low) => cut(self.alloc, &state.objects, v, high, low, place),
-                    Err(e) => Err(e),
+                    Err(e) => {
+                        drop(v);
+                        Err(e)
+                    }
                 },
-                Err(e) => Err(e),
+                Err(e) => {
+                    drop(v);
+                    Err(e)
+                }
             },
             Err(e) => Err(e),
         }
@@ -231,7 +238,10 @@ impl<
         match self.expression(state, scope, calls, left) {
             Ok(a) => match self.expression(state, scope, calls, right) {
                 Ok(b) => binary(self.alloc, &state.objects, binary_of(op), a, b, place),
-                Err(e) => Err(e),
+                Err(e) => {
+                    drop(a);
+                    Err(e)
+                }
             },
             Err(e) => Err(e),
         }
@@ -258,9 +268,16 @@ impl<
             Ok(c) => match self.expression(state, scope, calls, yes) {
                 Ok(a) => match self.expression(state, scope, calls, no) {
                     Ok(b) => choose(self.alloc, &state.objects, c, a, b, place),
-                    Err(e) => Err(e),
+                    Err(e) => {
+                        drop(a);
+                        drop(c);
+                        Err(e)
+                    }
                 },
-                Err(e) => Err(e),
+                Err(e) => {
+                    drop(c);
+                    Err(e)
+                }
             },
             Err(e) => Err(e),
         }

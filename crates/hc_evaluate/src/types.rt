@@ -22,8 +22,14 @@ pub(crate) fn needs_constant(v: Value, place: Place) -> Result<Whole, FrontErr>
     ensures { (s : the_state.State) → Answers (λ n. n) (spec.needs_constant place (operand v) s) result s }
 {
     match v {
-        Value::Constant(v) => Ok(v),
-        Value::Typed(_) => Err(broken(Rule::S8, place)),
+        Value::Constant(n) => {
+            drop(v);
+            Ok(n)
+        }
+        Value::Typed(_) => {
+            drop(v);
+            Err(broken(Rule::S8, place))
+        }
     }
 }
 
