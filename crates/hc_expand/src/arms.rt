@@ -53,9 +53,15 @@ impl<
             match self.arm(state, &*scope, calls, of, first) {
                 Ok(made) => match done.push(made) {
                     Ok(()) => {}
-                    Err(_) => return Err(FrontErr::NoMemory),
+                    Err(_) => {
+                        drop(done);
+                        return Err(FrontErr::NoMemory);
+                    }
                 },
-                Err(e) => return Err(e),
+                Err(e) => {
+                    drop(done);
+                    return Err(e);
+                }
             }
             rest = behind;
         }
@@ -113,7 +119,10 @@ impl<
                         parts,
                     },
                 }),
-                Err(e) => Err(e),
+                Err(e) => {
+                    drop(values);
+                    Err(e)
+                }
             },
             Err(e) => Err(e),
         }

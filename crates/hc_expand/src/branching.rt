@@ -107,7 +107,10 @@ impl<
     {
         match self.both(state, scope, calls, yes, no) {
             Ok(b) => branches(self.alloc, place, condition, b),
-            Err(e) => Err(e),
+            Err(e) => {
+                drop(condition);
+                Err(e)
+            }
         }
     }
 
@@ -130,7 +133,10 @@ impl<
         match self.statement(state, scope, calls, yes) {
             Ok(chosen) => match self.statement_or_skip(state, scope, calls, no) {
                 Ok(other) => Ok(IfParts { chosen, other }),
-                Err(e) => Err(e),
+                Err(e) => {
+                    drop(chosen);
+                    Err(e)
+                }
             },
             Err(e) => Err(e),
         }
@@ -179,8 +185,16 @@ fn branches(alloc: Global, place: Place, condition: Expr, b: IfParts) -> Result<
                 yes,
                 no,
             }),
-            Err(_) => Err(FrontErr::NoMemory),
+            Err(_) => {
+                drop(yes);
+                drop(condition);
+                Err(FrontErr::NoMemory)
+            }
         },
-        Err(_) => Err(FrontErr::NoMemory),
+        Err(_) => {
+            drop(b.other);
+            drop(condition);
+            Err(FrontErr::NoMemory)
+        }
     }
 }

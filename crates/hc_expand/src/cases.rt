@@ -82,7 +82,10 @@ impl<
                 ) {
                     Ok(made) => match self.each(state, &*scope, calls, x.stmts.as_slice()) {
                         Ok(parts) => Ok(cased(x.place, made, parts)),
-                        Err(e) => Err(e),
+                        Err(e) => {
+                            drop(made);
+                            Err(e)
+                        }
                     },
                     Err(e) => Err(e),
                 }

@@ -61,7 +61,10 @@ impl<
         match of::expression(self.alloc, state, scope, calls, self.room, e) {
             Ok(v) => match self.statement(state, scope, calls, body) {
                 Ok(body) => while_of(self.alloc, place, condition(v), body),
-                Err(e) => Err(e),
+                Err(e) => {
+                    drop(v);
+                    Err(e)
+                }
             },
             Err(e) => Err(e),
         }
@@ -87,7 +90,10 @@ impl<
         match self.statement(state, scope, calls, body) {
             Ok(body) => match of::expression(self.alloc, state, scope, calls, self.room, e) {
                 Ok(v) => do_of(self.alloc, place, body, condition(v)),
-                Err(e) => Err(e),
+                Err(e) => {
+                    drop(body);
+                    Err(e)
+                }
             },
             Err(e) => Err(e),
         }
@@ -167,7 +173,10 @@ fn loop_condition<'s, 't>(
 {
     match condition_or_one(alloc, state, scope, calls, room, e) {
         Ok(holding) => loop_last(alloc, state, scope, calls, room, first, holding, last),
-        Err(e) => Err(e),
+        Err(e) => {
+            drop(first);
+            Err(e)
+        }
     }
 }
 
@@ -202,7 +211,11 @@ fn loop_last<'s, 't>(
             Ok(l) => Ok(l),
             Err(_) => Err(FrontErr::NoMemory),
         },
-        Err(e) => Err(e),
+        Err(e) => {
+            drop(holding);
+            drop(first);
+            Err(e)
+        }
     }
 }
 
@@ -259,7 +272,10 @@ fn while_of(alloc: Global, place: Place, condition: Expr, body: Stmt) -> Result<
             condition,
             body,
         }),
-        Err(_) => Err(FrontErr::NoMemory),
+        Err(_) => {
+            drop(condition);
+            Err(FrontErr::NoMemory)
+        }
     }
 }
 
@@ -274,7 +290,10 @@ fn do_of(alloc: Global, place: Place, body: Stmt, condition: Expr) -> Result<Stm
             body,
             condition,
         }),
-        Err(_) => Err(FrontErr::NoMemory),
+        Err(_) => {
+            drop(condition);
+            Err(FrontErr::NoMemory)
+        }
     }
 }
 
@@ -290,7 +309,10 @@ fn for_behind(
 {
     match body {
         Ok(body) => for_of(alloc, place, l.into_inner(), body),
-        Err(e) => Err(e),
+        Err(e) => {
+            drop(l);
+            Err(e)
+        }
     }
 }
 
@@ -301,7 +323,10 @@ fn for_of(alloc: Global, place: Place, l: LoopParts, body: Stmt) -> Result<Stmt,
 {
     match turning(alloc, place, l.holding, l.last, body) {
         Ok(turning) => pair(alloc, place, l.first, turning),
-        Err(e) => Err(e),
+        Err(e) => {
+            drop(l.first);
+            Err(e)
+        }
     }
 }
 
@@ -318,7 +343,10 @@ fn turning(
 {
     match pair(alloc, place, body, last) {
         Ok(body) => while_of(alloc, place, holding, body),
-        Err(e) => Err(e),
+        Err(e) => {
+            drop(holding);
+            Err(e)
+        }
     }
 }
 
@@ -331,8 +359,15 @@ fn pair(alloc: Global, place: Place, first: Stmt, second: Stmt) -> Result<Stmt, 
     match parts.push(first) {
         Ok(()) => match parts.push(second) {
             Ok(()) => Ok(Stmt::Seq { place, parts }),
-            Err(_) => Err(FrontErr::NoMemory),
+            Err(_) => {
+                drop(parts);
+                Err(FrontErr::NoMemory)
+            }
         },
-        Err(_) => Err(FrontErr::NoMemory),
+        Err(_) => {
+            drop(parts);
+            drop(second);
+            Err(FrontErr::NoMemory)
+        }
     }
 }

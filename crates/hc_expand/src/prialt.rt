@@ -101,9 +101,15 @@ impl<
                         cases,
                         rest: Some(rest),
                     }),
-                    Err(_) => Err(FrontErr::NoMemory),
+                    Err(_) => {
+                        drop(cases);
+                        Err(FrontErr::NoMemory)
+                    }
                 },
-                Err(e) => Err(e),
+                Err(e) => {
+                    drop(cases);
+                    Err(e)
+                }
             },
             Err(e) => Err(e),
         }
@@ -130,9 +136,15 @@ impl<
             match self.case(state, &*scope, calls, first) {
                 Ok(made) => match done.push(made) {
                     Ok(()) => {}
-                    Err(_) => return Err(FrontErr::NoMemory),
+                    Err(_) => {
+                        drop(done);
+                        return Err(FrontErr::NoMemory);
+                    }
                 },
-                Err(e) => return Err(e),
+                Err(e) => {
+                    drop(done);
+                    return Err(e);
+                }
             }
             rest = behind;
         }

@@ -129,9 +129,15 @@ fn rooted<'s, 't>(
     ensures sound { IfOk result (λ core. parts_of core < 2 ^ 32 → IsSound core) }
 {
     match roots.clock {
-        None => Err(broken_word(alloc, Rule::S23, FIRST, b"clock")),
+        None => {
+            drop(state);
+            Err(broken_word(alloc, Rule::S23, FIRST, b"clock"))
+        }
         Some(clock) => match roots.main {
-            None => Err(broken_word(alloc, Rule::S23, FIRST, b"main")),
+            None => {
+                drop(state);
+                Err(broken_word(alloc, Rule::S23, FIRST, b"main"))
+            }
             Some(body) => core(alloc, state, scope, clock, body),
         },
     }
@@ -161,8 +167,15 @@ fn core<'s, 't>(
                 },
                 clock,
             }),
-            Err(_) => Err(FrontErr::NoMemory),
+            Err(_) => {
+                drop(parts);
+                drop(state);
+                Err(FrontErr::NoMemory)
+            }
         },
-        Err(e) => Err(e),
+        Err(e) => {
+            drop(state);
+            Err(e)
+        }
     }
 }

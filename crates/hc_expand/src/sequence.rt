@@ -49,9 +49,15 @@ impl<
             match self.statement(state, scope, calls, first) {
                 Ok(s) => match done.push(s) {
                     Ok(()) => {}
-                    Err(_) => return Err(FrontErr::NoMemory),
+                    Err(_) => {
+                        drop(done);
+                        return Err(FrontErr::NoMemory);
+                    }
                 },
-                Err(e) => return Err(e),
+                Err(e) => {
+                    drop(done);
+                    return Err(e);
+                }
             }
             rest = behind;
         }

@@ -89,7 +89,10 @@ impl<
                 selector,
                 arms,
             }),
-            Err(e) => Err(e),
+            Err(e) => {
+                drop(selector);
+                Err(e)
+            }
         }
     }
 }

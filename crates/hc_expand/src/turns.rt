@@ -100,20 +100,27 @@ impl<
         'turn: while most > 0 {
             let found = match self.turn(state, &*scope, calls, x, condition, step, body, v) {
                 Ok(found) => found,
-                Err(e) => return Err(e),
+                Err(e) => {
+                    drop(done);
+                    return Err(e);
+                }
             };
             match found {
                 Some(turned) => {
                     v = turned.next;
                     match done.push(turned.body) {
                         Ok(()) => {}
-                        Err(_) => return Err(FrontErr::NoMemory),
+                        Err(_) => {
+                            drop(done);
+                            return Err(FrontErr::NoMemory);
+                        }
                     }
                 }
                 None => return Ok(done),
             }
             most -= 1;
         }
+        drop(done);
         Err(broken(Rule::L5, place))
     }
 
@@ -198,7 +205,10 @@ impl<
                     },
                     next,
                 })),
-                Err(e) => Err(e),
+                Err(e) => {
+                    drop(parts);
+                    Err(e)
+                }
             },
             Err(e) => Err(e),
         }
