@@ -70,7 +70,11 @@ fn compile<S: Store>(alloc: Global, text: &[u8], name: &str, store: &mut S) -> R
     ensures counts { MovesWrites (S.state store.old) (S.state store.new) }
 {
     match read_source(alloc, text) {
-        Ok(core) => build_core(alloc, &core, name, store),
+        Ok(core) => {
+            let due = build_core(alloc, &core, name, store);
+            drop(core);
+            due
+        }
         Err(FrontErr::Refused(refusal)) => Ok(Due::Refused(refusal)),
         Err(FrontErr::NoMemory) => Err(WriteErr::NoMemory),
     }
@@ -89,7 +93,11 @@ fn build_core<S: Store>(
     ensures counts { MovesWrites (S.state store.old) (S.state store.new) }
 {
     match build(alloc, core) {
-        Ok(net) => save_net(alloc, net.raw(), name, store),
+        Ok(net) => {
+            let due = save_net(alloc, net.raw(), name, store);
+            drop(net);
+            due
+        }
         Err(_) => Err(WriteErr::NoMemory),
     }
 }

@@ -39,7 +39,11 @@ fn check(alloc: Global, text: &[u8]) -> Result<Due, WriteErr>
     ensures { ChecksSource text.now result }
 {
     match read_source(alloc, text) {
-        Ok(core) => Ok(counted(&core)),
+        Ok(core) => {
+            let due = counted(&core);
+            drop(core);
+            Ok(due)
+        }
         Err(FrontErr::Refused(refusal)) => Ok(Due::Refused(refusal)),
         Err(FrontErr::NoMemory) => Err(WriteErr::NoMemory),
     }

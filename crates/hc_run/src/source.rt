@@ -35,7 +35,11 @@ pub fn read_source(alloc: Global, bytes: &[u8]) -> Result<Core, FrontErr>
 {
     tokens_are_plain();
     match lex(alloc, bytes) {
-        Ok(tokens) => read_tokens(alloc, &tokens),
+        Ok(tokens) => {
+            let read = read_tokens(alloc, &tokens);
+            drop(tokens);
+            read
+        }
         Err(e) => Err(e),
     }
 }
@@ -48,7 +52,11 @@ fn read_tokens(alloc: Global, tokens: &Tokens) -> Result<Core, FrontErr>
     ensures refused { IfErr result (λ e. IfRefusal e (FirstOfTokens tokens.now.tokens tokens.now.end)) }
 {
     match parse(alloc, tokens) {
-        Ok(tree) => read_tree(alloc, &tree),
+        Ok(tree) => {
+            let read = read_tree(alloc, &tree);
+            drop(tree);
+            read
+        }
         Err(e) => Err(e),
     }
 }
@@ -75,7 +83,10 @@ fn checked(core: Core) -> Result<Core, FrontErr>
 {
     match check_core(&core) {
         Ok(()) => Ok(core),
-        Err(refusal) => Err(FrontErr::Refused(refusal)),
+        Err(refusal) => {
+            drop(core);
+            Err(FrontErr::Refused(refusal))
+        }
     }
 }
 
