@@ -46,7 +46,10 @@ pub(crate) fn expr_before(alloc: Global, c: &mut Cursor<'_>, kind: Kind) -> Resu
     };
     match c.expect(kind) {
         Ok(()) => Ok(value),
-        Err(halt) => Err(halt),
+        Err(halt) => {
+            drop(value);
+            Err(halt)
+        }
     }
 }
 

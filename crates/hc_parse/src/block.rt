@@ -30,7 +30,10 @@ pub(crate) fn block(alloc: Global, c: &mut Cursor<'_>) -> Result<Block, Halt>
     };
     let stmts = match stmts(alloc, c) {
         Ok(stmts) => stmts,
-        Err(halt) => return Err(halt),
+        Err(halt) => {
+            drop(declared);
+            return Err(halt);
+        }
     };
     match c.expect(Kind::Mark(Mark::BraceClose)) {
         Ok(()) => Ok(Block {
@@ -38,7 +41,11 @@ pub(crate) fn block(alloc: Global, c: &mut Cursor<'_>) -> Result<Block, Halt>
             declared,
             stmts,
         }),
-        Err(halt) => Err(halt),
+        Err(halt) => {
+            drop(stmts);
+            drop(declared);
+            Err(halt)
+        }
     }
 }
 
@@ -51,11 +58,17 @@ fn declared(alloc: Global, c: &mut Cursor<'_>) -> Result<Items<LocalItem>, Halt>
     'each: while is_at_local(c) {
         let item = match local_item(alloc, c) {
             Ok(item) => item,
-            Err(halt) => return Err(halt),
+            Err(halt) => {
+                drop(list);
+                return Err(halt);
+            }
         };
         match list.push(item) {
             Ok(()) => {}
-            Err(_) => return Err(Halt::NoMemory),
+            Err(_) => {
+                drop(list);
+                return Err(Halt::NoMemory);
+            }
         }
     }
     Ok(list)
@@ -88,11 +101,17 @@ pub(crate) fn stmts(alloc: Global, c: &mut Cursor<'_>) -> Result<Items<Stmt>, Ha
     'each: while is_at_stmt(c) {
         let next = match stmt(alloc, c) {
             Ok(next) => next,
-            Err(halt) => return Err(halt),
+            Err(halt) => {
+                drop(list);
+                return Err(halt);
+            }
         };
         match list.push(next) {
             Ok(()) => {}
-            Err(_) => return Err(Halt::NoMemory),
+            Err(_) => {
+                drop(list);
+                return Err(Halt::NoMemory);
+            }
         }
     }
     Ok(list)

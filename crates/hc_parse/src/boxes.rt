@@ -15,6 +15,19 @@ pub(crate) fn boxed(alloc: Global, part: Stmt) -> Result<Boxed<Stmt>, Halt>
     }
 }
 
+/// A statement that may be absent, in a box of its own.
+fn opt_boxed(alloc: Global, part: Option<Stmt>) -> Result<Option<Boxed<Stmt>>, Halt>
+    ensures { Makes result part }
+{
+    match part {
+        Some(part) => match boxed(alloc, part) {
+            Ok(made) => Ok(Some(made)),
+            Err(_) => Err(Halt::NoMemory),
+        },
+        None => Ok(None),
+    }
+}
+
 /// `( if | ifselect ) ( expr ) stmt [ else stmt ]`
 pub(crate) fn if_of(
     alloc: Global,
@@ -27,26 +40,25 @@ pub(crate) fn if_of(
     ensures { Makes result (Stmt.If place word condition yes no) }
 {
     match boxed(alloc, yes) {
-        Ok(yes) => match no {
-            Some(no) => match boxed(alloc, no) {
-                Ok(no) => Ok(Stmt::If {
-                    place,
-                    word,
-                    condition,
-                    yes,
-                    no: Some(no),
-                }),
-                Err(_) => Err(Halt::NoMemory),
-            },
-            None => Ok(Stmt::If {
+        Ok(yes) => match opt_boxed(alloc, no) {
+            Ok(no) => Ok(Stmt::If {
                 place,
                 word,
                 condition,
                 yes,
-                no: None,
+                no,
             }),
+            Err(_) => {
+                drop(yes);
+                drop(condition);
+                Err(Halt::NoMemory)
+            }
         },
-        Err(_) => Err(Halt::NoMemory),
+        Err(_) => {
+            drop(no);
+            drop(condition);
+            Err(Halt::NoMemory)
+        }
     }
 }
 
@@ -65,7 +77,10 @@ pub(crate) fn while_of(
             condition,
             body,
         }),
-        Err(_) => Err(Halt::NoMemory),
+        Err(_) => {
+            drop(condition);
+            Err(Halt::NoMemory)
+        }
     }
 }
 
@@ -84,6 +99,9 @@ pub(crate) fn do_of(
             body,
             condition,
         }),
-        Err(_) => Err(Halt::NoMemory),
+        Err(_) => {
+            drop(condition);
+            Err(Halt::NoMemory)
+        }
     }
 }

@@ -25,11 +25,18 @@ pub(crate) fn conditional(alloc: Global, c: &mut Cursor<'_>, word: Condition) ->
     };
     let yes = match stmt(alloc, c) {
         Ok(yes) => yes,
-        Err(halt) => return Err(halt),
+        Err(halt) => {
+            drop(condition);
+            return Err(halt);
+        }
     };
     match else_tail(alloc, c) {
         Ok(no) => if_of(alloc, place, word, condition, yes, no),
-        Err(halt) => Err(halt),
+        Err(halt) => {
+            drop(yes);
+            drop(condition);
+            Err(halt)
+        }
     }
 }
 
@@ -62,7 +69,10 @@ pub(crate) fn while_stmt(alloc: Global, c: &mut Cursor<'_>) -> Result<Stmt, Halt
     };
     match stmt(alloc, c) {
         Ok(body) => while_of(alloc, place, condition, body),
-        Err(halt) => Err(halt),
+        Err(halt) => {
+            drop(condition);
+            Err(halt)
+        }
     }
 }
 
@@ -80,14 +90,24 @@ pub(crate) fn do_stmt(alloc: Global, c: &mut Cursor<'_>) -> Result<Stmt, Halt>
     };
     match c.expect(Kind::While) {
         Ok(()) => {}
-        Err(halt) => return Err(halt),
+        Err(halt) => {
+            drop(body);
+            return Err(halt);
+        }
     }
     let condition = match in_brackets(alloc, c) {
         Ok(condition) => condition,
-        Err(halt) => return Err(halt),
+        Err(halt) => {
+            drop(body);
+            return Err(halt);
+        }
     };
     match c.expect(Kind::Mark(Mark::Semicolon)) {
         Ok(()) => do_of(alloc, place, body, condition),
-        Err(halt) => Err(halt),
+        Err(halt) => {
+            drop(condition);
+            drop(body);
+            Err(halt)
+        }
     }
 }

@@ -41,7 +41,10 @@ pub(crate) fn for_stmt(alloc: Global, c: &mut Cursor<'_>) -> Result<Stmt, Halt>
     };
     match stmt(alloc, c) {
         Ok(body) => for_of(alloc, place, head, body),
-        Err(halt) => Err(halt),
+        Err(halt) => {
+            drop(head);
+            Err(halt)
+        }
     }
 }
 
@@ -59,7 +62,10 @@ fn for_head(alloc: Global, c: &mut Cursor<'_>) -> Result<Boxed<ForHead>, Halt>
     };
     match for_rest(alloc, c) {
         Ok(rest) => head_of(alloc, first, rest),
-        Err(halt) => Err(halt),
+        Err(halt) => {
+            drop(first);
+            Err(halt)
+        }
     }
 }
 
@@ -73,7 +79,10 @@ fn for_rest(alloc: Global, c: &mut Cursor<'_>) -> Result<Boxed<ForRest>, Halt>
     };
     match opt_simple_before(alloc, c, Kind::Mark(Mark::ParenClose)) {
         Ok(step) => rest_of(alloc, condition, step),
-        Err(halt) => Err(halt),
+        Err(halt) => {
+            drop(condition);
+            Err(halt)
+        }
     }
 }
 
@@ -123,6 +132,9 @@ fn for_of(alloc: Global, place: Place, head: Boxed<ForHead>, body: Stmt) -> Resu
 {
     match boxed(alloc, body) {
         Ok(body) => Ok(for_boxed(place, head.into_inner(), body)),
-        Err(_) => Err(Halt::NoMemory),
+        Err(_) => {
+            drop(head);
+            Err(Halt::NoMemory)
+        }
     }
 }

@@ -43,15 +43,24 @@ fn bus_in(alloc: Global, c: &mut Cursor<'_>, place: Place) -> Result<Interface, 
     };
     let port = match name_before(alloc, c, Kind::Mark(Mark::ParenClose)) {
         Ok(port) => port,
-        Err(halt) => return Err(halt),
+        Err(halt) => {
+            drop(of);
+            return Err(halt);
+        }
     };
     let name = match name_before(alloc, c, Kind::Mark(Mark::ParenOpen)) {
         Ok(name) => name,
-        Err(halt) => return Err(halt),
+        Err(halt) => {
+            drop(of);
+            return Err(halt);
+        }
     };
     match c.expect(Kind::Mark(Mark::ParenClose)) {
         Ok(()) => {}
-        Err(halt) => return Err(halt),
+        Err(halt) => {
+            drop(of);
+            return Err(halt);
+        }
     }
     match with_end(alloc, c) {
         Ok(with) => Ok(Interface::BusIn {
@@ -61,7 +70,10 @@ fn bus_in(alloc: Global, c: &mut Cursor<'_>, place: Place) -> Result<Interface, 
             name,
             with,
         }),
-        Err(halt) => Err(halt),
+        Err(halt) => {
+            drop(of);
+            Err(halt)
+        }
     }
 }
 
@@ -89,11 +101,17 @@ fn bus_out(alloc: Global, c: &mut Cursor<'_>, place: Place) -> Result<Interface,
     };
     let port = match name_before(alloc, c, Kind::Mark(Mark::Assign)) {
         Ok(port) => port,
-        Err(halt) => return Err(halt),
+        Err(halt) => {
+            drop(of);
+            return Err(halt);
+        }
     };
     let value = match expr_before(alloc, c, Kind::Mark(Mark::ParenClose)) {
         Ok(value) => value,
-        Err(halt) => return Err(halt),
+        Err(halt) => {
+            drop(of);
+            return Err(halt);
+        }
     };
     match with_end(alloc, c) {
         Ok(with) => Ok(Interface::BusOut {
@@ -104,6 +122,10 @@ fn bus_out(alloc: Global, c: &mut Cursor<'_>, place: Place) -> Result<Interface,
             value,
             with,
         }),
-        Err(halt) => Err(halt),
+        Err(halt) => {
+            drop(value);
+            drop(of);
+            Err(halt)
+        }
     }
 }

@@ -58,7 +58,10 @@ fn macro_expr(alloc: Global, c: &mut Cursor<'_>, place: Place) -> Result<Macro, 
     };
     match c.expect(Kind::Mark(Mark::Assign)) {
         Ok(()) => {}
-        Err(halt) => return Err(halt),
+        Err(halt) => {
+            drop(params);
+            return Err(halt);
+        }
     }
     match expr_before(alloc, c, Kind::Mark(Mark::Semicolon)) {
         Ok(value) => Ok(Macro::Expr {
@@ -67,7 +70,10 @@ fn macro_expr(alloc: Global, c: &mut Cursor<'_>, place: Place) -> Result<Macro, 
             params,
             value,
         }),
-        Err(halt) => Err(halt),
+        Err(halt) => {
+            drop(params);
+            Err(halt)
+        }
     }
 }
 
@@ -93,6 +99,9 @@ fn macro_proc(alloc: Global, c: &mut Cursor<'_>, place: Place) -> Result<Macro, 
             params,
             body,
         }),
-        Err(halt) => Err(halt),
+        Err(halt) => {
+            drop(params);
+            Err(halt)
+        }
     }
 }

@@ -48,20 +48,35 @@ pub(crate) fn memories_tail(
     };
     let first = match mem(alloc, c, init) {
         Ok(first) => first,
-        Err(halt) => return Err(halt),
+        Err(halt) => {
+            drop(of);
+            return Err(halt);
+        }
     };
     let mut memories = Items::new(alloc);
     match memories.push(first) {
         Ok(()) => {}
-        Err(_) => return Err(Halt::NoMemory),
+        Err(_) => {
+            drop(memories);
+            drop(of);
+            return Err(Halt::NoMemory);
+        }
     }
     match more_mems(alloc, c, init, &mut memories) {
         Ok(()) => {}
-        Err(halt) => return Err(halt),
+        Err(halt) => {
+            drop(memories);
+            drop(of);
+            return Err(halt);
+        }
     }
     let with = match with_list(alloc, c) {
         Ok(with) => with,
-        Err(halt) => return Err(halt),
+        Err(halt) => {
+            drop(memories);
+            drop(of);
+            return Err(halt);
+        }
     };
     match c.expect(Kind::Mark(Mark::Semicolon)) {
         Ok(()) => Ok(Decl::Memories {
@@ -72,7 +87,12 @@ pub(crate) fn memories_tail(
             memories,
             with,
         }),
-        Err(halt) => Err(halt),
+        Err(halt) => {
+            drop(with);
+            drop(memories);
+            drop(of);
+            Err(halt)
+        }
     }
 }
 
@@ -120,11 +140,17 @@ fn mem(alloc: Global, c: &mut Cursor<'_>, init: Initial) -> Result<Mem, Halt>
     };
     match c.expect(Kind::Mark(Mark::BracketClose)) {
         Ok(()) => {}
-        Err(halt) => return Err(halt),
+        Err(halt) => {
+            drop(length);
+            return Err(halt);
+        }
     }
     match mem_init(alloc, c, init) {
         Ok(init) => Ok(Mem { name, length, init }),
-        Err(halt) => Err(halt),
+        Err(halt) => {
+            drop(length);
+            Err(halt)
+        }
     }
 }
 
@@ -166,14 +192,23 @@ pub(crate) fn mem_init(
     let mut values = Items::new(alloc);
     match values.push(first) {
         Ok(()) => {}
-        Err(_) => return Err(Halt::NoMemory),
+        Err(_) => {
+            drop(values);
+            return Err(Halt::NoMemory);
+        }
     }
     match more_exprs(alloc, c, &mut values) {
         Ok(()) => {}
-        Err(halt) => return Err(halt),
+        Err(halt) => {
+            drop(values);
+            return Err(halt);
+        }
     }
     match c.expect(Kind::Mark(Mark::BraceClose)) {
         Ok(()) => Ok(Some(values)),
-        Err(halt) => Err(halt),
+        Err(halt) => {
+            drop(values);
+            Err(halt)
+        }
     }
 }

@@ -78,7 +78,10 @@ fn receive(alloc: Global, c: &mut Cursor<'_>, channel: Ident) -> Result<Stmt, Ha
             channel,
             target,
         }),
-        Err(halt) => Err(halt),
+        Err(halt) => {
+            drop(target);
+            Err(halt)
+        }
     }
 }
 
@@ -94,7 +97,10 @@ fn call(alloc: Global, c: &mut Cursor<'_>, name: Ident) -> Result<Stmt, Halt>
     };
     match c.expect(Kind::Mark(Mark::ParenClose)) {
         Ok(()) => {}
-        Err(halt) => return Err(halt),
+        Err(halt) => {
+            drop(arguments);
+            return Err(halt);
+        }
     }
     match c.expect(Kind::Mark(Mark::Semicolon)) {
         Ok(()) => Ok(Stmt::Call {
@@ -102,7 +108,10 @@ fn call(alloc: Global, c: &mut Cursor<'_>, name: Ident) -> Result<Stmt, Halt>
             name,
             arguments,
         }),
-        Err(halt) => Err(halt),
+        Err(halt) => {
+            drop(arguments);
+            Err(halt)
+        }
     }
 }
 
@@ -121,6 +130,9 @@ fn written(alloc: Global, c: &mut Cursor<'_>, name: Ident) -> Result<Stmt, Halt>
     };
     match c.expect(Kind::Mark(Mark::Semicolon)) {
         Ok(()) => Ok(Stmt::Simple(made)),
-        Err(halt) => Err(halt),
+        Err(halt) => {
+            drop(made);
+            Err(halt)
+        }
     }
 }

@@ -75,15 +75,27 @@ fn replicator(alloc: Global, c: &mut Cursor<'_>, place: Place, order: Order) -> 
     };
     let condition = match expr_before(alloc, c, Kind::Mark(Mark::Semicolon)) {
         Ok(condition) => condition,
-        Err(halt) => return Err(halt),
+        Err(halt) => {
+            drop(first);
+            return Err(halt);
+        }
     };
     let step = match simple(alloc, c) {
         Ok(step) => step,
-        Err(halt) => return Err(halt),
+        Err(halt) => {
+            drop(condition);
+            drop(first);
+            return Err(halt);
+        }
     };
     match c.expect(Kind::Mark(Mark::ParenClose)) {
         Ok(()) => {}
-        Err(halt) => return Err(halt),
+        Err(halt) => {
+            drop(step);
+            drop(condition);
+            drop(first);
+            return Err(halt);
+        }
     }
     match block(alloc, c) {
         Ok(body) => Ok(Stmt::Replicator {
@@ -95,6 +107,11 @@ fn replicator(alloc: Global, c: &mut Cursor<'_>, place: Place, order: Order) -> 
             step,
             body,
         }),
-        Err(halt) => Err(halt),
+        Err(halt) => {
+            drop(step);
+            drop(condition);
+            drop(first);
+            Err(halt)
+        }
     }
 }

@@ -57,7 +57,10 @@ pub(crate) fn expr_before(alloc: Global, c: &mut Cursor<'_>, kind: Kind) -> Resu
     };
     match c.expect(kind) {
         Ok(()) => Ok(value),
-        Err(halt) => Err(halt),
+        Err(halt) => {
+            drop(value);
+            Err(halt)
+        }
     }
 }
 
@@ -75,7 +78,10 @@ pub(crate) fn opt_expr_before(
     };
     match c.expect(kind) {
         Ok(()) => Ok(value),
-        Err(halt) => Err(halt),
+        Err(halt) => {
+            drop(value);
+            Err(halt)
+        }
     }
 }
 
@@ -93,7 +99,10 @@ pub(crate) fn opt_simple_before(
     };
     match c.expect(kind) {
         Ok(()) => Ok(value),
-        Err(halt) => Err(halt),
+        Err(halt) => {
+            drop(value);
+            Err(halt)
+        }
     }
 }
 

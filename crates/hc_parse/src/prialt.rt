@@ -45,7 +45,11 @@ pub(crate) fn prialt(alloc: Global, c: &mut Cursor<'_>) -> Result<Stmt, Halt>
             cases,
             other,
         }),
-        Err(halt) => Err(halt),
+        Err(halt) => {
+            drop(other);
+            drop(cases);
+            Err(halt)
+        }
     }
 }
 
@@ -72,11 +76,17 @@ fn more_cases(alloc: Global, c: &mut Cursor<'_>) -> Result<(Items<Case>, Option<
     'each: while c.is(Kind::Case) {
         let (case, has_break) = match case(alloc, c) {
             Ok(read) => read,
-            Err(halt) => return Err(halt),
+            Err(halt) => {
+                drop(list);
+                return Err(halt);
+            }
         };
         match list.push(case) {
             Ok(()) => {}
-            Err(_) => return Err(Halt::NoMemory),
+            Err(_) => {
+                drop(list);
+                return Err(Halt::NoMemory);
+            }
         }
         if !has_break {
             return Ok((list, None));
@@ -87,7 +97,10 @@ fn more_cases(alloc: Global, c: &mut Cursor<'_>) -> Result<(Items<Case>, Option<
     }
     match other(alloc, c) {
         Ok(other) => Ok((list, Some(other))),
-        Err(halt) => Err(halt),
+        Err(halt) => {
+            drop(list);
+            Err(halt)
+        }
     }
 }
 
@@ -105,11 +118,18 @@ fn case(alloc: Global, c: &mut Cursor<'_>) -> Result<(Case, bool), Halt>
     };
     let stmts = match stmts(alloc, c) {
         Ok(stmts) => stmts,
-        Err(halt) => return Err(halt),
+        Err(halt) => {
+            drop(head);
+            return Err(halt);
+        }
     };
     match opt_break(c) {
         Ok(has_break) => Ok((case_of(place, head, stmts, has_break), has_break)),
-        Err(halt) => Err(halt),
+        Err(halt) => {
+            drop(stmts);
+            drop(head);
+            Err(halt)
+        }
     }
 }
 
@@ -160,7 +180,10 @@ fn offer_before(alloc: Global, c: &mut Cursor<'_>) -> Result<Offer, Halt>
     };
     match c.expect(Kind::Mark(Mark::Colon)) {
         Ok(()) => Ok(made),
-        Err(halt) => Err(halt),
+        Err(halt) => {
+            drop(made);
+            Err(halt)
+        }
     }
 }
 
@@ -207,7 +230,10 @@ fn other(alloc: Global, c: &mut Cursor<'_>) -> Result<Other, Halt>
             stmts,
             has_break,
         }),
-        Err(halt) => Err(halt),
+        Err(halt) => {
+            drop(stmts);
+            Err(halt)
+        }
     }
 }
 

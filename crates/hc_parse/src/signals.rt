@@ -25,20 +25,35 @@ pub(crate) fn signals(alloc: Global, c: &mut Cursor<'_>) -> Result<Decl, Halt>
     };
     let first = match sig(alloc, c) {
         Ok(first) => first,
-        Err(halt) => return Err(halt),
+        Err(halt) => {
+            drop(of);
+            return Err(halt);
+        }
     };
     let mut signals = Items::new(alloc);
     match signals.push(first) {
         Ok(()) => {}
-        Err(_) => return Err(Halt::NoMemory),
+        Err(_) => {
+            drop(signals);
+            drop(of);
+            return Err(Halt::NoMemory);
+        }
     }
     match more_sigs(alloc, c, &mut signals) {
         Ok(()) => {}
-        Err(halt) => return Err(halt),
+        Err(halt) => {
+            drop(signals);
+            drop(of);
+            return Err(halt);
+        }
     }
     let with = match with_list(alloc, c) {
         Ok(with) => with,
-        Err(halt) => return Err(halt),
+        Err(halt) => {
+            drop(signals);
+            drop(of);
+            return Err(halt);
+        }
     };
     match c.expect(Kind::Mark(Mark::Semicolon)) {
         Ok(()) => Ok(Decl::Signals {
@@ -47,7 +62,12 @@ pub(crate) fn signals(alloc: Global, c: &mut Cursor<'_>) -> Result<Decl, Halt>
             signals,
             with,
         }),
-        Err(halt) => Err(halt),
+        Err(halt) => {
+            drop(with);
+            drop(signals);
+            drop(of);
+            Err(halt)
+        }
     }
 }
 
@@ -64,20 +84,35 @@ pub(crate) fn chans(alloc: Global, c: &mut Cursor<'_>) -> Result<Decl, Halt>
     };
     let first = match name(alloc, c) {
         Ok(first) => first,
-        Err(halt) => return Err(halt),
+        Err(halt) => {
+            drop(of);
+            return Err(halt);
+        }
     };
     let mut names = Items::new(alloc);
     match names.push(first) {
         Ok(()) => {}
-        Err(_) => return Err(Halt::NoMemory),
+        Err(_) => {
+            drop(names);
+            drop(of);
+            return Err(Halt::NoMemory);
+        }
     }
     match more_names(alloc, c, &mut names) {
         Ok(()) => {}
-        Err(halt) => return Err(halt),
+        Err(halt) => {
+            drop(names);
+            drop(of);
+            return Err(halt);
+        }
     }
     let with = match with_list(alloc, c) {
         Ok(with) => with,
-        Err(halt) => return Err(halt),
+        Err(halt) => {
+            drop(names);
+            drop(of);
+            return Err(halt);
+        }
     };
     match c.expect(Kind::Mark(Mark::Semicolon)) {
         Ok(()) => Ok(Decl::Chans {
@@ -86,7 +121,12 @@ pub(crate) fn chans(alloc: Global, c: &mut Cursor<'_>) -> Result<Decl, Halt>
             names,
             with,
         }),
-        Err(halt) => Err(halt),
+        Err(halt) => {
+            drop(with);
+            drop(names);
+            drop(of);
+            Err(halt)
+        }
     }
 }
 
@@ -110,7 +150,10 @@ fn boxed(alloc: Global, c: &mut Cursor<'_>) -> Result<BoxedType, Halt>
     };
     match c.expect(Kind::Mark(Mark::Greater)) {
         Ok(()) => Ok(BoxedType::InAngles(of)),
-        Err(halt) => Err(halt),
+        Err(halt) => {
+            drop(of);
+            Err(halt)
+        }
     }
 }
 

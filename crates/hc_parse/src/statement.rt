@@ -119,6 +119,9 @@ fn stepped(alloc: Global, c: &mut Cursor<'_>) -> Result<Stmt, Halt>
     };
     match c.expect(Kind::Mark(Mark::Semicolon)) {
         Ok(()) => Ok(Stmt::Simple(made)),
-        Err(halt) => Err(halt),
+        Err(halt) => {
+            drop(made);
+            Err(halt)
+        }
     }
 }

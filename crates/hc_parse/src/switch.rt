@@ -25,11 +25,17 @@ pub(crate) fn switch(alloc: Global, c: &mut Cursor<'_>) -> Result<Stmt, Halt>
     };
     match c.expect(Kind::Mark(Mark::BraceOpen)) {
         Ok(()) => {}
-        Err(halt) => return Err(halt),
+        Err(halt) => {
+            drop(selector);
+            return Err(halt);
+        }
     }
     let arms = match arms(alloc, c) {
         Ok(arms) => arms,
-        Err(halt) => return Err(halt),
+        Err(halt) => {
+            drop(selector);
+            return Err(halt);
+        }
     };
     match c.expect(Kind::Mark(Mark::BraceClose)) {
         Ok(()) => Ok(Stmt::Switch {
@@ -37,7 +43,11 @@ pub(crate) fn switch(alloc: Global, c: &mut Cursor<'_>) -> Result<Stmt, Halt>
             selector,
             arms,
         }),
-        Err(halt) => Err(halt),
+        Err(halt) => {
+            drop(arms);
+            drop(selector);
+            Err(halt)
+        }
     }
 }
 
@@ -51,11 +61,17 @@ fn arms(alloc: Global, c: &mut Cursor<'_>) -> Result<Items<Arm>, Halt>
     'each: while is_at_label(c, has_default) {
         let (arm, has_break) = match arm(alloc, c, &mut has_default) {
             Ok(read) => read,
-            Err(halt) => return Err(halt),
+            Err(halt) => {
+                drop(list);
+                return Err(halt);
+            }
         };
         match list.push(arm) {
             Ok(()) => {}
-            Err(_) => return Err(Halt::NoMemory),
+            Err(_) => {
+                drop(list);
+                return Err(Halt::NoMemory);
+            }
         }
         if !has_break {
             return Ok(list);
@@ -77,7 +93,10 @@ fn arm(alloc: Global, c: &mut Cursor<'_>, has_default: &mut bool) -> Result<(Arm
     };
     let stmts = match stmts(alloc, c) {
         Ok(stmts) => stmts,
-        Err(halt) => return Err(halt),
+        Err(halt) => {
+            drop(labels);
+            return Err(halt);
+        }
     };
     match opt_break(c) {
         Ok(has_break) => Ok((
@@ -89,7 +108,11 @@ fn arm(alloc: Global, c: &mut Cursor<'_>, has_default: &mut bool) -> Result<(Arm
             },
             has_break,
         )),
-        Err(halt) => Err(halt),
+        Err(halt) => {
+            drop(stmts);
+            drop(labels);
+            Err(halt)
+        }
     }
 }
 
@@ -101,11 +124,17 @@ fn labels(alloc: Global, c: &mut Cursor<'_>, has_default: &mut bool) -> Result<I
     'each: while is_at_label(c, *has_default) {
         let next = match label(alloc, c, has_default) {
             Ok(next) => next,
-            Err(halt) => return Err(halt),
+            Err(halt) => {
+                drop(list);
+                return Err(halt);
+            }
         };
         match list.push(next) {
             Ok(()) => {}
-            Err(_) => return Err(Halt::NoMemory),
+            Err(_) => {
+                drop(list);
+                return Err(Halt::NoMemory);
+            }
         }
     }
     Ok(list)

@@ -31,20 +31,35 @@ pub(crate) fn vars_tail(
     };
     let first = match var(alloc, c, init) {
         Ok(first) => first,
-        Err(halt) => return Err(halt),
+        Err(halt) => {
+            drop(of);
+            return Err(halt);
+        }
     };
     let mut vars = Items::new(alloc);
     match vars.push(first) {
         Ok(()) => {}
-        Err(_) => return Err(Halt::NoMemory),
+        Err(_) => {
+            drop(vars);
+            drop(of);
+            return Err(Halt::NoMemory);
+        }
     }
     match more_vars(alloc, c, init, &mut vars) {
         Ok(()) => {}
-        Err(halt) => return Err(halt),
+        Err(halt) => {
+            drop(vars);
+            drop(of);
+            return Err(halt);
+        }
     }
     let with = match with_list(alloc, c) {
         Ok(with) => with,
-        Err(halt) => return Err(halt),
+        Err(halt) => {
+            drop(vars);
+            drop(of);
+            return Err(halt);
+        }
     };
     match c.expect(Kind::Mark(Mark::Semicolon)) {
         Ok(()) => Ok(Decl::Vars {
@@ -54,7 +69,12 @@ pub(crate) fn vars_tail(
             vars,
             with,
         }),
-        Err(halt) => Err(halt),
+        Err(halt) => {
+            drop(with);
+            drop(vars);
+            drop(of);
+            Err(halt)
+        }
     }
 }
 
@@ -130,10 +150,16 @@ fn array(alloc: Global, c: &mut Cursor<'_>, init: bool, name: Ident) -> Result<V
     };
     match c.expect(Kind::Mark(Mark::BracketClose)) {
         Ok(()) => {}
-        Err(halt) => return Err(halt),
+        Err(halt) => {
+            drop(length);
+            return Err(halt);
+        }
     }
     match mem_init(alloc, c, allowed(init)) {
         Ok(init) => Ok(Var::Array(Mem { name, length, init })),
-        Err(halt) => Err(halt),
+        Err(halt) => {
+            drop(length);
+            Err(halt)
+        }
     }
 }

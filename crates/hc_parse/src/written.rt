@@ -41,7 +41,10 @@ pub(crate) fn index(alloc: Global, c: &mut Cursor<'_>) -> Result<Option<ExprTree
     };
     match c.expect(Kind::Mark(Mark::BracketClose)) {
         Ok(()) => Ok(Some(at)),
-        Err(halt) => Err(halt),
+        Err(halt) => {
+            drop(at);
+            Err(halt)
+        }
     }
 }
 
@@ -89,6 +92,7 @@ pub(crate) fn simple_tail(alloc: Global, c: &mut Cursor<'_>, target: Target) -> 
     ensures { AnswersTo f.simple_tail (λ tail. tail target) c.old result c.new }
 {
     if c.len() == 0 {
+        drop(target);
         return Err(Halt::Refused(None));
     }
     let place = target.name.place;
@@ -102,7 +106,10 @@ pub(crate) fn simple_tail(alloc: Global, c: &mut Cursor<'_>, target: Target) -> 
     }
     let assign = match assign(c) {
         Ok(assign) => assign,
-        Err(halt) => return Err(halt),
+        Err(halt) => {
+            drop(target);
+            return Err(halt);
+        }
     };
     match expr(alloc, c) {
         Ok(value) => Ok(Simple::Assign {
@@ -111,7 +118,10 @@ pub(crate) fn simple_tail(alloc: Global, c: &mut Cursor<'_>, target: Target) -> 
             assign,
             value,
         }),
-        Err(halt) => Err(halt),
+        Err(halt) => {
+            drop(target);
+            Err(halt)
+        }
     }
 }
 
