@@ -4,6 +4,8 @@ pub mod Typed
 pub mod Parts
 pub mod Sound
 pub mod Zero
+pub mod FirstPlace
+pub mod Endless
 pub mod Instant
 pub mod Depends
 pub mod Weight

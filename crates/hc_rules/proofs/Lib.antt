@@ -1,0 +1,4 @@
+pub mod Places
+pub mod Clocks
+pub mod Meeting
+pub mod Rows

@@ -1,1 +1,3 @@
 pub mod Weight
+pub mod Rules
+pub mod Labels
