@@ -1,4 +1,4 @@
-ghost use Rattle.std.specs.Prelude.{◌≡◌, ◌<◌, false, IfSome, OnOk, OnErr};
+ghost use Rattle.std.specs.Prelude.{◌≡◌, ◌<◌, ℕ, List, false, None, IfSome, OnOk, OnErr};
 ghost use Rattle.hc_scope.specs.Marks.{mark_of};
 ghost use Rattle.hc_scope.specs.Scope.{Scope as Chain, declared, is_declared};
 ghost use Rattle.hc_scope.specs.Reading.{scope_of, scope_in, declared_of};
@@ -24,11 +24,19 @@ pub(crate) fn find_among<'t>(
     ensures among { IsAmong name.now names.now.entries seen result }
     ensures within { IfSome result (λ p. p.0 < seen) }
 {
-    if (names.marks >> mark) % 2 == 0 {
-        None
-    } else {
+    if is_marked(names, mark) {
         find_in(&names.table, seen, name)
+    } else {
+        None
     }
+}
+
+/// Whether a scope may have a name with this mark.
+pub(crate) fn is_marked<'t>(names: &Names<'t>, mark: u32) -> bool
+    requires { mark < 64 }
+    ensures { result ≡ false → (name : List ℕ) (seen : ℕ) → mark ≡ mark_of name → IsAmong name names.now.entries seen None }
+{
+    (names.marks >> mark) % 2 == 1
 }
 
 /// The same in the table.

@@ -6,7 +6,7 @@ ghost use Rattle.hc_scope.specs.Reading.{scope_of, declared_of, meaning_of, Find
 ghost use Rattle.hc_scope.specs.Places.{IsBound};
 
 use crate::marked::mark;
-use crate::names::{Names, find_among};
+use crate::names::{Names, find_among, is_marked};
 use hc_tree::{Block, ExprTree, Ident};
 use hc_width::Whole;
 
@@ -93,9 +93,13 @@ fn passed<'a, 's, 't>(scope: &'a Scope<'s, 't>, name: &[u8], mark: u32) -> &'a S
     match scope {
         Scope::Outside => scope,
         Scope::Declares(names, seen, around) => {
-            match find_among(names, *seen, name, mark) {
-                Some(_found) => scope,
-                None => passed(around, name, mark),
+            if is_marked(names, mark) {
+                match find_among(names, *seen, name, mark) {
+                    Some(_found) => scope,
+                    None => passed(around, name, mark),
+                }
+            } else {
+                passed(around, name, mark)
             }
         }
         Scope::Turn(x, _number, around) => {

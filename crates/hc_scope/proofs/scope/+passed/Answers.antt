@@ -28,3 +28,10 @@ returns-in-None-find_bound t c =
     let around = s.opened (scope_of c.in-Binds.around.now) in
     let is = ap scope_of c.in-Binds.is ∙ reads-Binds c.in-Binds.parameters c.in-Binds.arguments c.in-Binds._call c.in-Binds.around in
     c.passed-in-None-find_bound.ensures ∙ sym (ap (find name) is ∙ (c.in-None-find_bound.ensures call around).found)
+
+pub returns-else-is_marked : goal.returns-else-is_marked
+returns-else-is_marked t c =
+    let name = c.args.name.now in
+    let around = s.opened (scope_of c.in-Declares.around.now) in
+    let is = ap scope_of c.in-Declares.is ∙ reads-Declares c.in-Declares.names c.in-Declares.seen c.in-Declares.around in
+    c.passed-else-is_marked.ensures ∙ sym (ap (find name) is ∙ (c.is_marked.ensures c.if-is_marked.false name c.in-Declares.seen c.requires.mark around).found)
