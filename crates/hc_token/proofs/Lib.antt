@@ -1,0 +1,9 @@
+pub mod Parts
+pub mod Constants
+pub mod Joined
+pub mod Chosen
+pub mod Controlled
+pub mod LatchNodes
+pub mod Waited
+pub mod SideBySide
+pub mod Sample

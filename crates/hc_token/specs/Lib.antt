@@ -1,0 +1,5 @@
+pub mod Control
+pub mod Circuits
+pub mod Latches
+pub mod Waits
+pub mod Sample
