@@ -13,6 +13,5 @@ pub mod Rows
 pub mod Chains
 pub mod Sums
 pub mod Comparisons
-pub mod Sample
 pub mod Groups
 pub mod Prefixes

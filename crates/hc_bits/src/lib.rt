@@ -16,8 +16,6 @@ mod logic;
 mod prefix;
 mod selector;
 mod shift;
-#[cfg(test)]
-mod tests;
 
 pub use adder::{add, negate, sub};
 pub use any_bit::truth;

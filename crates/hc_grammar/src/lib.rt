@@ -8,8 +8,6 @@ mod halt;
 mod kind;
 mod laws;
 mod order;
-#[cfg(test)]
-mod tests;
 
 pub use cursor::Cursor;
 pub use halt::Halt;

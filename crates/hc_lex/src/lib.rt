@@ -15,6 +15,3 @@ pub use laws::{never_both, one_first_breach, one_reading, tokens_are_plain, toke
 pub use lexer::lex;
 pub use mark::Mark;
 pub use token::{Placed, Token, Tokens};
-
-#[cfg(test)]
-mod tests;

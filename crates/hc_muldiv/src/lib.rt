@@ -6,8 +6,6 @@
 mod divide;
 mod joined;
 mod multiply;
-#[cfg(test)]
-mod tests;
 
 pub use divide::{quotient, remainder};
 pub use multiply::times;

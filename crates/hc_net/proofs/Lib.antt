@@ -6,4 +6,3 @@ pub mod Levels
 pub mod Places
 pub mod First
 pub mod Sealed
-pub mod Samples

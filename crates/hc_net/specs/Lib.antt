@@ -9,4 +9,3 @@ pub mod Made
 pub mod MadeLemmas
 pub mod Order
 pub mod Place
-pub mod Sample

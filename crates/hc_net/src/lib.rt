@@ -13,8 +13,6 @@ mod nets;
 mod node;
 mod pins;
 mod seal;
-#[cfg(test)]
-mod tests;
 
 pub use builder::Builder;
 pub use gate::GateKind;

@@ -8,8 +8,6 @@ mod laws;
 mod outputs;
 mod room;
 mod settle;
-#[cfg(test)]
-mod tests;
 
 pub use gates::Gates;
 pub use laws::runs_as_netlist;

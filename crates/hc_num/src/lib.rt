@@ -9,8 +9,6 @@ mod index;
 mod num;
 mod parts;
 mod shift;
-#[cfg(test)]
-mod tests;
 
 pub use index::aw;
 pub use num::Num;

@@ -14,8 +14,6 @@ mod plan;
 mod sink;
 mod std_sink;
 mod store;
-#[cfg(test)]
-mod tests;
 mod writes;
 
 pub use errors::{Failed, LoadErr, NoMemory, StoreErr, WriteErr};

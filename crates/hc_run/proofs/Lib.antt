@@ -8,7 +8,6 @@ pub mod NetText
 pub mod Numbered
 pub mod Order
 pub mod Rows
-pub mod Sample
 pub mod Sending
 pub mod Sizes
 pub mod Sources

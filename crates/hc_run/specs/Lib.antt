@@ -5,7 +5,6 @@ pub mod Job
 pub mod Lines
 pub mod Pins
 pub mod Refused
-pub mod Sample
 pub mod Sent
 pub mod Source
 pub mod Steps

@@ -131,7 +131,7 @@ fn send_edif<K: Sink>(
 /// Writes a netlist as EDIF 2 0 0.
 ///
 /// After an error a front part of the text was written. `WriteFault` comes only with a fault of the sink.
-pub(crate) fn write_edif<K: Sink>(alloc: Global, net: &RawNet, out: &mut K) -> Result<(), WriteErr>
+pub fn write_edif<K: Sink>(alloc: Global, net: &RawNet, out: &mut K) -> Result<(), WriteErr>
     requires ready { (K.state out.old).ready ≡ true }
     requires valid { IsValid net.now }
     ensures ok { OnOk result (Wrote (edif net.now) (K.state out.old) (K.state out.new)) }

@@ -7,9 +7,9 @@ use hc_tree::{Detail, Name, Node, Nodes, Refusal, Rule};
 use itoa::Buffer;
 use std::alloc::{AllocError, Global};
 
-/// The line of a refusal.
+/// The line of a refusal: its rule, its place and what more there is to say.
 #[tactic(auto, unfolding(crate::specs::Refused::refusal_line))]
-pub(crate) fn refusal_line(alloc: Global, refusal: &Refusal) -> Result<Vec<u8>, AllocError>
+pub fn refusal_line(alloc: Global, refusal: &Refusal) -> Result<Vec<u8>, AllocError>
     ensures { IfOk result (λ line. line.items ≡ spec.refusal_line refusal.now) }
 {
     let mut digits = Buffer::new();

@@ -6,3 +6,5 @@
 mod gates;
 #[cfg(test)]
 mod jobs;
+#[cfg(test)]
+mod texts;

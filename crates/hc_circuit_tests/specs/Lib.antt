@@ -1,0 +1,4 @@
+pub mod Operands
+pub mod Sealed
+pub mod Counter
+pub mod Sum

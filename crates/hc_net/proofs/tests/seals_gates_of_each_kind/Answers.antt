@@ -1,7 +1,0 @@
-use Rattle.std.proofs.Common.{sym, subst}
-use Rattle.hc_net.specs.Seal.{IsSealable}
-use Rattle.hc_net.proofs.Samples.{all_gates_sealable}
-use Rattle.hc_net.proofs.tests.seals_gates_of_each_kind.Goals as goal
-
-pub seal-requires : goal.seal-requires
-seal-requires g c = subst IsSealable (sym c.in_ok-all_gates.ensures) all_gates_sealable

@@ -1,7 +1,0 @@
-use Rattle.std.proofs.Common.{sym, subst}
-use Rattle.hc_net.specs.Seal.{IsSealable}
-use Rattle.hc_run.proofs.Sample.{small_sealable}
-use Rattle.hc_run.proofs.tests.writes_a_small_netlist.Goals as goal
-
-pub seal-requires : goal.seal-requires
-seal-requires g c = subst IsSealable (sym c.in_ok-small_circuit.ensures) small_sealable
