@@ -42,6 +42,12 @@ def scopes(n):
     return source("unsigned 4 x;", deep), 4 * n + 570
 
 
+def depths(n):
+    """Blocks n deep, each with a register of its own, and 100,000 uses of the outermost name in the innermost."""
+    deep = "".join(f"{{ unsigned 4 r{i}; " for i in range(n)) + "x = x + 1;" * 100_000 + "}" * n
+    return source("unsigned 4 x;", deep), 400_000 + 3 * n
+
+
 def turns(n):
     """A replicator of n turns."""
     return source("unsigned 32 x;", f"seq (i = 0; i < {n}; ++i) {{ x = i; }}"), 8 * n
@@ -84,6 +90,7 @@ GROWING = [
     (names, 1 << 10, 65_535),
     (objects, 1 << 10, 65_535),
     (scopes, 1 << 10, 100_000),
+    (depths, 1, 190),
     (turns, 1 << 10, 100_000),
     (arguments, 1 << 5, 2_000),
     (sums, 1 << 10, 300_000),
