@@ -10,3 +10,4 @@ pub mod RowsSound
 pub mod RowsWeight
 pub mod RowsZero
 pub mod RowsDepends
+pub mod RowsRules

@@ -4,9 +4,9 @@ pub mod Typed
 pub mod Parts
 pub mod Sound
 pub mod Zero
-pub mod FirstPlace
-pub mod Endless
 pub mod Instant
 pub mod Depends
+pub mod FirstPlace
+pub mod Rules
 pub mod Weight
 pub mod Weigh
