@@ -1,11 +1,11 @@
 -- Worked rows of the dependencies within a clock, computed.
-use Rattle.std.proofs.Common.{◌≡◌, ◌≢◌, ℕ, zero, suc, List, [], ◌∷◌, map, false, refl, ap, arith, lit<}
+use Rattle.std.proofs.Common.{◌≡◌, ◌≢◌, ℕ, zero, suc, List, [], ◌∷◌, map, true, false, refl, ap, arith, lit<}
 use Rattle.std.specs.Prelude.{AllPairs}
 use Rattle.hc_num.specs.Number.{Number}
 use Rattle.hc_tree.specs.declared.place.Place.{Place}
 use Rattle.hc_tree.specs.declared.refusal.Node.{Node}
 use Rattle.hc_tree.specs.declared.refusal.Node.TheVariants.{Value, Sends, Receives}
-use Rattle.hc_core.specs.Program.{Expression, Constant, Register, Word, Signal, Binary, ToRegister, ToWord, ToSignal, Skip, Assign, Delay, Send, Receive, PrialtElse, Seq, Par, If, While, stop, ◌⨾◌, no_case, send_case, receive_case}
+use Rattle.hc_core.specs.Program.{Expression, Constant, Register, Word, Signal, Binary, ToRegister, ToWord, ToSignal, Statement, Skip, Assign, Delay, Send, Receive, Prialt, PrialtElse, Seq, Par, If, While, DoWhile, Switch, stop, ◌⨾◌, no_case, send_case, receive_case, no_arm, arm}
 use Rattle.hc_core.specs.Read.{expression, target, statement, statements_in}
 use Rattle.hc_core.specs.Instant.{nodes_from, deps, passes, finishes}
 use Rattle.hc_core.specs.Depends.{Need, needs, needs_of, Depends, Cyclic, directly, through, IsCycle, place_of}
@@ -89,6 +89,53 @@ pass_by_partners = refl
 others : needs (Value 1 ∷ []) (Par here (Send here 3 s ⨾ Receive here 3 (ToRegister 4) ⨾ Assign here (ToWord 2 s) t ⨾ stop))
     ≡ need (Sends 3) (Value 1 ∷ []) ∷ need (Receives 3) (Value 1 ∷ []) ∷ need (Value 2) (Value 1 ∷ Value 0 ∷ []) ∷ []
 others = refl
+
+-- `while (s) delay;` and `while (t) delay;`, which a start passes by what their conditions read, and which finish by it
+abbrev by_s : Statement
+by_s = While here s (Delay here)
+
+abbrev by_t : Statement
+by_t = While here t (Delay here)
+
+-- a branch of `par` passes by what the branches pass by, a sequence by what its parts pass by, each where all may
+pass_parts : map passes (Seq here (by_s ⨾ by_t ⨾ stop) ∷ Seq here (by_s ⨾ Delay here ⨾ stop) ∷ Par here (by_s ⨾ by_t ⨾ stop) ∷ Par here (by_s ⨾ Delay here ⨾ stop) ∷ [])
+    ≡ (Value 0 ∷ Value 1 ∷ []) ∷ [] ∷ (Value 0 ∷ Value 1 ∷ []) ∷ [] ∷ []
+pass_parts = refl
+
+-- an `if` and a `switch` pass by what they are chosen by and what is chosen, a `do` never where its body takes a clock
+pass_choices : map passes (If here s by_t (Delay here) ∷ If here s (Delay here) (Delay here) ∷ Switch here s (arm [] false by_t no_arm)
+    ∷ Switch here s (arm [] true (Delay here) no_arm) ∷ DoWhile here (Delay here) s ∷ Prialt here (send_case 3 s Skip no_case) ∷ [])
+    ≡ (Value 0 ∷ Value 1 ∷ []) ∷ [] ∷ (Value 0 ∷ Value 1 ∷ []) ∷ [] ∷ [] ∷ [] ∷ []
+pass_choices = refl
+
+-- a sequence finishes by its last part, and where that may be passed, by the parts before it too
+finish_sequence : map finishes (Seq here (by_s ⨾ Delay here ⨾ stop) ∷ Seq here (by_s ⨾ by_t ⨾ stop) ∷ Seq here (by_s ⨾ Delay here ⨾ by_t ⨾ stop)
+    ∷ Seq here (by_s ⨾ by_t ⨾ Skip ⨾ stop) ∷ [])
+    ≡ [] ∷ (Value 1 ∷ Value 0 ∷ Value 1 ∷ []) ∷ (Value 1 ∷ Value 1 ∷ []) ∷ (Value 1 ∷ Value 0 ∷ Value 1 ∷ []) ∷ []
+finish_sequence = refl
+
+-- each side, branch and arm of others; a `do` by its condition too; a case by its arm, started in the clock before, and a default
+finish_others : map finishes (Par here (by_s ⨾ by_t ⨾ stop) ∷ If here s by_t (Delay here) ∷ DoWhile here by_s t ∷ Switch here s (arm [] false by_t no_arm)
+    ∷ Prialt here (receive_case 3 (ToRegister 4) by_t no_case) ∷ PrialtElse here (send_case 3 s (Delay here) no_case) by_t ∷ [])
+    ≡ (Value 0 ∷ Value 1 ∷ []) ∷ (Value 1 ∷ []) ∷ (Value 0 ∷ Value 1 ∷ []) ∷ (Value 1 ∷ []) ∷ (Value 1 ∷ Value 1 ∷ []) ∷ (Value 1 ∷ []) ∷ []
+finish_others = refl
+
+-- `s; t; t = 1;` of loops: the third part starts by both, from the start of the sequence on
+third_part : needs (Value 2 ∷ []) (Seq here (by_s ⨾ by_t ⨾ Assign here (ToSignal 5) one ⨾ stop)) ≡ need (Value 5) (Value 1 ∷ Value 0 ∷ Value 1 ∷ Value 2 ∷ Value 0 ∷ Value 1 ∷ []) ∷ []
+third_part = refl
+
+-- a loop's condition and body start again in the clock in which the body finishes; that of a `do` is first read there
+in_do : needs (Value 5 ∷ []) (DoWhile here (Seq here (Assign here (ToSignal 0) one ⨾ by_t ⨾ stop)) (m i)) ≡ need (Value 2) (Value 1 ∷ Value 1 ∷ []) ∷ need (Value 0) (Value 5 ∷ Value 1 ∷ Value 1 ∷ Value 2 ∷ []) ∷ []
+in_do = refl
+
+-- an arm is started by the start and the selector, in which a word is read
+in_switch : needs (Value 5 ∷ []) (Switch here (m s) (arm [] false (Assign here (ToSignal 1) one) no_arm)) ≡ need (Value 2) (Value 5 ∷ Value 0 ∷ []) ∷ need (Value 1) (Value 5 ∷ Value 2 ∷ Value 0 ∷ []) ∷ []
+in_switch = refl
+
+-- words in cases are accessed from the start on, and an arm starts by no value of the clock
+in_cases : needs (Value 5 ∷ []) (Prialt here (send_case 3 (m i) (Assign here (ToSignal 1) s) (receive_case 3 (ToWord 2 s) (Delay here) no_case)))
+    ≡ need (Value 2) (Value 5 ∷ []) ∷ need (Value 2) (Value 5 ∷ Value 0 ∷ []) ∷ need (Value 1) (Value 0 ∷ []) ∷ []
+in_cases = refl
 
 -- The signals of `s = t; t = s;` are a cycle.
 abbrev object : Kind → Object

@@ -1,13 +1,13 @@
 -- Worked rows of the static rules, computed.
-use Rattle.std.proofs.Common.{◌≡◌, ℕ, List, [], ◌∷◌, map, true, false, Option, Some, None, refl}
+use Rattle.std.proofs.Common.{◌≡◌, ℕ, List, [], ◌∷◌, map, true, false, Some, None, refl}
 use Rattle.hc_num.specs.Number.{Number}
 use Rattle.hc_tree.specs.declared.place.Place.{Place}
-use Rattle.hc_tree.specs.declared.refusal.Rule.TheVariants.{S16, S18, S19, S20, S21, S22}
+use Rattle.hc_tree.specs.declared.refusal.Rule.TheVariants.{S16, S18, S20, S21}
 use Rattle.hc_tree.specs.declared.refusal.Detail.TheVariants.{Nothing, Name}
-use Rattle.hc_core.specs.Program.{Expression, Constant, Register, Element, Word, Binary, ToRegister, ToElement, ToWord, Statement, Skip, Assign, Delay, Send, Receive, Prialt, PrialtElse, Seq, Par, If, While, DoWhile, Switch, Statements, stop, ◌⨾◌, Cases, no_case, send_case, receive_case, no_arm, arm}
+use Rattle.hc_core.specs.Program.{Expression, Register, Element, Word, Binary, ToRegister, ToElement, ToWord, Statement, Skip, Assign, Delay, Send, Receive, Prialt, PrialtElse, Seq, Par, If, While, DoWhile, Switch, stop, ◌⨾◌, Cases, no_case, send_case, receive_case, no_arm, arm}
 use Rattle.hc_core.specs.Read.{expression, target, statement, statements_in, cases_in}
-use Rattle.hc_core.specs.FirstPlace.{first_where, first_found}
-use Rattle.hc_core.specs.Rules.{Found, least, repeated, endless, both_cases, two_cases, accessed_twice, in_a_case, in_an_output, repeats_label, first_broken}
+use Rattle.hc_core.specs.FirstPlace.{first_where}
+use Rattle.hc_core.specs.Rules.{least, repeated, endless, both_cases, two_cases, accessed_twice, in_a_case, in_an_output, repeats_label, first_broken}
 use Rattle.hc_core.specs.declared.expr.BinOp.TheVariants.{Add}
 use Rattle.hc_core.specs.declared.expr.Expr.TheVariants as e
 use Rattle.hc_core.specs.declared.expr.Expr.TheBlock as eb

@@ -7,6 +7,7 @@ use Rattle.hc_core.specs.Program.{Expression, Constant, Register, Word, Unary, B
 use Rattle.hc_core.specs.Read.{expression, target, statement, statements_in}
 use Rattle.hc_core.specs.Typed.{IsNumber, IsAmount, Typed, constant, register, arithmetic, taking, dropping, slice, width_of, sign_of}
 use Rattle.hc_core.specs.Sound.{IsKind, IsSound}
+use Rattle.hc_core.proofs.Types.{widths_are}
 use Rattle.hc_core.specs.declared.expr.UnOp.TheVariants.{IsZero, ToSigned}
 use Rattle.hc_core.specs.declared.expr.BinOp.TheVariants.{Add, Lt, Shl, Concat, Take, Drop, Both}
 use Rattle.hc_core.specs.declared.expr.Expr.TheVariants as e
@@ -101,3 +102,21 @@ first_sound = record {
   clock = refl;
   few = lit< tt;
 }
+
+-- `y = 5;` where no object is y, and `x = 5;` by a constant of another width, are not sound
+abbrev lost_core : Core
+lost_core = record first_core { main = s.Assign here (t.Reg 1) (e.Const (number 4 5)) }
+
+lost_is_unsound : IsSound lost_core → ⊥
+unfolding statement target expression
+lost_is_unsound sound = let there : slice_get first_kinds 1 ≡ Some _ = sound.main.target.1 in absurd cc
+
+abbrev wide_core : Core
+wide_core = record first_core { main = s.Assign here (t.Reg 0) (e.Const (number 5 5)) }
+
+wide_is_unsound : IsSound wide_core → ⊥
+unfolding statement target expression
+wide_is_unsound sound =
+    let there : Some (kind.Reg 4 false (number 4 0)) ≡ Some _ = sound.main.target.1 in
+    let width : 5 ≡ sound.main.width = widths_are first_kinds (Constant (number 5 5)) _ _ sound.main.value in
+    absurd cc

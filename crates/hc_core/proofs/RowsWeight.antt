@@ -66,9 +66,9 @@ i = Register 2
 abbrev one : Expression
 one = Constant (number 2 1)
 
--- 3 * 14, 14 and 15 / 8, 18, 5, and 5 with 40 of a sum
-object_weights : map (kind_weight kinds) (kind.Array 5 false 3 [] ∷ kind.Ram 5 false 3 [] ∷ kind.Chan 5 false 0 ∷ kind.Input 5 false []
-    ∷ kind.Output 5 false [] (e.Binary Add (e.Reg 0) (e.Reg 0)) ∷ []) ≡ 42 ∷ 15 ∷ 18 ∷ 5 ∷ 45 ∷ []
+-- 14 for a register and a signal, 14 and 15 / 8 for a ROM, 3 * 14, 14 and 15 / 8, 18, 5, and 5 with 40 of a sum
+object_weights : map (kind_weight kinds) (kind.Reg 5 false (number 5 0) ∷ kind.Signal 5 false (number 5 0) ∷ kind.Rom 5 false 3 [] ∷ kind.Array 5 false 3 [] ∷ kind.Ram 5 false 3 [] ∷ kind.Chan 5 false 0 ∷ kind.Input 5 false []
+    ∷ kind.Output 5 false [] (e.Binary Add (e.Reg 0) (e.Reg 0)) ∷ []) ≡ 14 ∷ 14 ∷ 15 ∷ 42 ∷ 15 ∷ 18 ∷ 5 ∷ 45 ∷ []
 unfolding expression eb.hidden-the_row-Expr-0 denote.Hole.Carrier.hidden
 object_weights = refl
 

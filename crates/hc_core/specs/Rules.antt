@@ -1,6 +1,6 @@
 -- The static rules over a core, each with the objects and statements that break it, and the first that is broken (this project's
 -- own).
-use Rattle.std.specs.Prelude.{ℕ, Bool, true, false, ◌&&◌, ◌||◌, ◌==◌, nat_lt, if◌then◌else◌, List, [], ◌∷◌, ◌++◌, map, Option, Some, None, slice_get}
+use Rattle.std.specs.Prelude.{ℕ, Bool, false, ◌&&◌, ◌||◌, ◌==◌, nat_lt, if◌then◌else◌, List, [], ◌∷◌, ◌++◌, map, Option, Some, None, slice_get}
 use Rattle.std.specs.List.{list_any}
 use Rattle.hc_num.specs.Number.{Number}
 use Rattle.hc_tree.specs.declared.place.Place.{Place}
@@ -9,7 +9,7 @@ use Rattle.hc_tree.specs.declared.refusal.Rule.TheVariants.{S16, S18, S19, S20, 
 use Rattle.hc_tree.specs.declared.refusal.Detail.{Detail}
 use Rattle.hc_tree.specs.declared.refusal.Detail.TheVariants.{Nothing, Name}
 use Rattle.hc_tree.specs.declared.refusal.Refusal.{Refusal}
-use Rattle.hc_core.specs.Program.{Expression, Statement, Skip, Assign, Delay, Send, Receive, Prialt, PrialtElse, Seq, Par, If, While, DoWhile, Switch, Statements, stop, ◌⨾◌, Cases, no_case, send_case, receive_case, Arms, no_arm, arm}
+use Rattle.hc_core.specs.Program.{Statement, Skip, Assign, Delay, Send, Receive, Prialt, PrialtElse, Seq, Par, If, While, DoWhile, Switch, Statements, stop, ◌⨾◌, Cases, no_case, send_case, receive_case, Arms, no_arm, arm}
 use Rattle.hc_core.specs.Read.{expression, statement}
 use Rattle.hc_core.specs.Zero.{zero}
 use Rattle.hc_core.specs.Depends.{Access, accesses, target_accesses, case_accesses}
