@@ -1,3 +1,1 @@
 mod Rows
-pub mod Straight
-pub mod Clean

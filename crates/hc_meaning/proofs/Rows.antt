@@ -11,8 +11,8 @@ use Rattle.hc_core.specs.declared.object.Kind.TheVariants as kind
 use Rattle.hc_tree.specs.declared.place.Place.{Place}
 use Rattle.hc_meaning.specs.Residual.{residual}
 use Rattle.hc_meaning.specs.Value.{Instant, initial, words}
-use Rattle.hc_meaning.specs.Control.{adv, front}
-use Rattle.hc_meaning.specs.Clock.{given, left, all_writes, after, outputs}
+use Rattle.hc_meaning.specs.Control.{resolved, front}
+use Rattle.hc_meaning.specs.Clock.{shown_by, behind_edge, all_writes, after, outputs}
 use Rattle.hc_meaning.specs.Run.{State, world_of}
 
 here : Place
@@ -29,13 +29,13 @@ quiet = record { signals = []; sends = []; receives = [] }
 settled : List Kind → List ℕ → State → ℕ → Instant
 settled kinds inputs s zero = quiet
 settled kinds inputs s (suc n) =
-    let w = world_of kinds inputs s (settled kinds inputs s n) in given w (front (adv w s.rest))
+    let w = world_of kinds inputs s (settled kinds inputs s n) in shown_by w (front (resolved w s.rest))
 
 next : List Kind → List ℕ → State → State
 next kinds inputs s =
     let w = world_of kinds inputs s (settled kinds inputs s 3) in
-    let leaves = front (adv w s.rest) in
-    record { rest = left w leaves (adv w s.rest); store = after (all_writes w leaves) s.store }
+    let leaves = front (resolved w s.rest) in
+    record { rest = behind_edge w leaves (resolved w s.rest); store = after (all_writes w leaves) s.store }
 
 edge : List Kind → (ℕ → List ℕ) → p.Statement → ℕ → State
 edge kinds trace main zero = record { rest = (residual main 0).0; store = initial kinds }

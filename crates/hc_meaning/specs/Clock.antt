@@ -7,14 +7,14 @@ use Rattle.hc_core.specs.Read.{expression}
 use Rattle.hc_core.specs.declared.object.Kind.{Kind}
 use Rattle.hc_core.specs.declared.object.Kind.TheVariants as kind
 use Rattle.hc_meaning.specs.Residual.{Action, Assign, Delay, Send, Receive, Offer, Sends, Receives, Residual, Skip, Act, Prialt, PrialtElse, Then, Par, If, While, DoWhile, Switch, Branches, ended, ◌∥◌, Cases, no_case, case_of}
-use Rattle.hc_meaning.specs.Value.{Store, with_word, Instant, World, val}
-use Rattle.hc_meaning.specs.Control.{is_ready, Condition, Leaf, acts, chooses_from}
+use Rattle.hc_meaning.specs.Value.{Store, with_word, Instant, World, number_of}
+use Rattle.hc_meaning.specs.Control.{is_ready, Condition, Leaf, does, chooses_from}
 
 -- ---- what agrees
 
 -- the values that a front assigns to a signal
 abbrev pub assigned : World → ℕ → Leaf → List ℕ
-assigned w k (acts n (Assign (ToSignal j) e)) = if j == k then (val w e).bits ∷ [] else []
+assigned w k (does n (Assign (ToSignal j) e)) = if j == k then (number_of w e).bits ∷ [] else []
 assigned w k _ = []
 
 -- the bitwise or of numbers
@@ -28,16 +28,16 @@ presented unset [] = unset
 presented unset (bits ∷ rest) = or_all (bits ∷ rest)
 
 abbrev pub signal_bits : World → List Leaf → ℕ → Kind → ℕ
-signal_bits w leaves k (kind.Signal width s unset) = presented unset.bits (flat_map (assigned w k) leaves)
-signal_bits w leaves k _ = 0
+signal_bits w front k (kind.Signal width s unset) = presented unset.bits (flat_map (assigned w k) front)
+signal_bits w front k _ = 0
 
 -- whether an action is a plain send or a plain receive on a channel
 abbrev pub is_send : ℕ → Leaf → Bool
-is_send k (acts n (Send chan e)) = chan == k
+is_send k (does n (Send chan e)) = chan == k
 is_send k _ = false
 
 abbrev pub is_receive : ℕ → Leaf → Bool
-is_receive k (acts n (Receive chan t)) = chan == k
+is_receive k (does n (Receive chan t)) = chan == k
 is_receive k _ = false
 
 -- what each object has from the front, numbered from k on
@@ -46,86 +46,86 @@ each_from of k [] = []
 each_from of k (kind ∷ kinds) = of k kind ∷ each_from of (k + 1) kinds
 
 -- what a front gives, read in a world
-abbrev pub given : World → List Leaf → Instant
-given w leaves = record {
-  signals = each_from (signal_bits w leaves) 0 w.kinds;
-  sends = each_from (λ k kind. list_any (is_send k) leaves) 0 w.kinds;
-  receives = each_from (λ k kind. list_any (is_receive k) leaves) 0 w.kinds;
+abbrev pub shown_by : World → List Leaf → Instant
+shown_by w front = record {
+  signals = each_from (signal_bits w front) 0 w.kinds;
+  sends = each_from (λ k kind. list_any (is_send k) front) 0 w.kinds;
+  receives = each_from (λ k kind. list_any (is_receive k) front) 0 w.kinds;
 }
 
 -- the instant of a world is what the front gives in it
 abbrev pub Agrees : World → List Leaf → Type 0
-Agrees w leaves = w.instant ≡ given w leaves
+Agrees w front = w.instant ≡ shown_by w front
 
 -- ---- what is completed
 
--- the first ready case, with its arm
-abbrev pub first_ready : World → Cases → Option (Offer × Residual)
+-- the first ready case: its number and its offer, with its arm
+abbrev pub first_ready : World → Cases → Option ((ℕ × Offer) × Residual)
 first_ready w no_case = None
-first_ready w (case_of n offer body rest) = if is_ready w offer then Some (offer, body) else first_ready w rest
+first_ready w (case_of n offer body rest) = if is_ready w offer then Some ((n, offer), body) else first_ready w rest
 
--- the case that a `prialt` of the front takes
-abbrev pub taken : World → Leaf → Option Offer
-taken w (acts n a) = None
-taken w (chooses_from n cases) = offer_of (first_ready w cases)
+-- the case that a `prialt` of the front takes: its number and its offer
+abbrev pub taken : World → Leaf → Option (ℕ × Offer)
+taken w (does n a) = None
+taken w (chooses_from n cases) = case_in (first_ready w cases)
   where
-    offer_of : Option (Offer × Residual) → Option Offer
-    offer_of None = None
-    offer_of (Some found) = Some found.0
+    case_in : Option ((ℕ × Offer) × Residual) → Option (ℕ × Offer)
+    case_in None = None
+    case_in (Some found) = Some found.0
 
-abbrev pub takes_receive : ℕ → Option Offer → Bool
-takes_receive k (Some (Receives chan t)) = chan == k
+abbrev pub takes_receive : ℕ → Option (ℕ × Offer) → Bool
+takes_receive k (Some (n, Receives chan t)) = chan == k
 takes_receive k _ = false
 
-abbrev pub takes_send : ℕ → Option Offer → Bool
-takes_send k (Some (Sends chan e)) = chan == k
+abbrev pub takes_send : ℕ → Option (ℕ × Offer) → Bool
+takes_send k (Some (n, Sends chan e)) = chan == k
 takes_send k _ = false
 
 -- whether an action is finished at the edge
 abbrev pub is_completed : World → List Leaf → Action → Bool
-is_completed w leaves (Assign t e) = true
-is_completed w leaves Delay = true
-is_completed w leaves (Send chan e) = slice_index_or w.instant.receives chan false || list_any (λ l. takes_receive chan (taken w l)) leaves
-is_completed w leaves (Receive chan t) = slice_index_or w.instant.sends chan false || list_any (λ l. takes_send chan (taken w l)) leaves
+is_completed w front (Assign t e) = true
+is_completed w front Delay = true
+is_completed w front (Send chan e) = slice_index_or w.instant.receives chan false || list_any (λ l. takes_receive chan (taken w l)) front
+is_completed w front (Receive chan t) = slice_index_or w.instant.sends chan false || list_any (λ l. takes_send chan (taken w l)) front
 
 -- a `prialt` after the edge: the arm of its first ready case, or itself
-abbrev pub arm_or : Residual → Option (Offer × Residual) → Residual
+abbrev pub arm_or : Residual → Option ((ℕ × Offer) × Residual) → Residual
 arm_or waiting None = waiting
 arm_or waiting (Some found) = found.1
 
 abbrev mutual
   -- what is left of a resolved statement after the edge
-  pub left : World → List Leaf → Residual → Residual
-  left w leaves Skip = Skip
-  left w leaves (Act n a) = if is_completed w leaves a then Skip else Act n a
-  left w leaves (Prialt n cases) = arm_or (Prialt n cases) (first_ready w cases)
-  left w leaves (PrialtElse n cases other) = arm_or (PrialtElse n cases other) (first_ready w cases)
-  left w leaves (Then a b) = Then (left w leaves a) b
-  left w leaves (Par branches) = Par (all_left w leaves branches)
-  left w leaves (If n c a b) = If n c a b
-  left w leaves (While n c body) = While n c body
-  left w leaves (DoWhile body n c) = DoWhile body n c
-  left w leaves (Switch n e arms) = Switch n e arms
+  pub behind_edge : World → List Leaf → Residual → Residual
+  behind_edge w front Skip = Skip
+  behind_edge w front (Act n a) = if is_completed w front a then Skip else Act n a
+  behind_edge w front (Prialt n cases) = arm_or (Prialt n cases) (first_ready w cases)
+  behind_edge w front (PrialtElse n cases other) = arm_or (PrialtElse n cases other) (first_ready w cases)
+  behind_edge w front (Then a b) = Then (behind_edge w front a) b
+  behind_edge w front (Par branches) = Par (all_behind_edge w front branches)
+  behind_edge w front (If n c a b) = If n c a b
+  behind_edge w front (While n c body) = While n c body
+  behind_edge w front (DoWhile body n c) = DoWhile body n c
+  behind_edge w front (Switch n e arms) = Switch n e arms
 
-  pub all_left : World → List Leaf → Branches → Branches
-  all_left w leaves ended = ended
-  all_left w leaves (first ∥ rest) = left w leaves first ∥ all_left w leaves rest
+  pub all_behind_edge : World → List Leaf → Branches → Branches
+  all_behind_edge w front ended = ended
+  all_behind_edge w front (first ∥ rest) = behind_edge w front first ∥ all_behind_edge w front rest
 
 -- ---- what is written
 
 -- the values that are sent on a channel in the clock: by plain sends, and by send cases that are taken
 abbrev pub sent_by : World → ℕ → Leaf → List ℕ
-sent_by w k (acts n (Send chan e)) = if chan == k then (val w e).bits ∷ [] else []
-sent_by w k (acts n a) = []
+sent_by w k (does n (Send chan e)) = if chan == k then (number_of w e).bits ∷ [] else []
+sent_by w k (does n a) = []
 sent_by w k (chooses_from n cases) = sent_in (taken w (chooses_from n cases))
   where
-    sent_in : Option Offer → List ℕ
-    sent_in (Some (Sends chan e)) = if chan == k then (val w e).bits ∷ [] else []
+    sent_in : Option (ℕ × Offer) → List ℕ
+    sent_in (Some (n, Sends chan e)) = if chan == k then (number_of w e).bits ∷ [] else []
     sent_in _ = []
 
 -- the value that is sent on a channel in a clean clock
 abbrev pub sent : World → List Leaf → ℕ → ℕ
-sent w leaves k = slice_index_or (flat_map (sent_by w k) leaves) 0 0
+sent w front k = slice_index_or (flat_map (sent_by w k) front) 0 0
 
 -- a number that is written at an index of an object
 pub record Write : Type 0 where
@@ -136,24 +136,24 @@ pub record Write : Type 0 where
 -- what is written where: a signal is no part of the store
 abbrev pub written_at : World → Target → ℕ → List Write
 written_at w (ToRegister k) bits = record { object = k; index = 0; bits = bits } ∷ []
-written_at w (ToElement k i) bits = record { object = k; index = (val w i).bits; bits = bits } ∷ []
-written_at w (ToWord k i) bits = record { object = k; index = (val w i).bits; bits = bits } ∷ []
+written_at w (ToElement k i) bits = record { object = k; index = (number_of w i).bits; bits = bits } ∷ []
+written_at w (ToWord k i) bits = record { object = k; index = (number_of w i).bits; bits = bits } ∷ []
 written_at w (ToSignal k) bits = []
 
 -- what an action of the front writes at the edge, all values being read before it
 abbrev pub writes : World → List Leaf → Leaf → List Write
-writes w leaves (acts n (Assign t e)) = written_at w t (val w e).bits
-writes w leaves (acts n Delay) = []
-writes w leaves (acts n (Send chan e)) = []
-writes w leaves (acts n (Receive chan t)) = if is_completed w leaves (Receive chan t) then written_at w t (sent w leaves chan) else []
-writes w leaves (chooses_from n cases) = received (taken w (chooses_from n cases))
+writes w front (does n (Assign t e)) = written_at w t (number_of w e).bits
+writes w front (does n Delay) = []
+writes w front (does n (Send chan e)) = []
+writes w front (does n (Receive chan t)) = if is_completed w front (Receive chan t) then written_at w t (sent w front chan) else []
+writes w front (chooses_from n cases) = received (taken w (chooses_from n cases))
   where
-    received : Option Offer → List Write
-    received (Some (Receives chan t)) = written_at w t (sent w leaves chan)
+    received : Option (ℕ × Offer) → List Write
+    received (Some (n, Receives chan t)) = written_at w t (sent w front chan)
     received _ = []
 
 abbrev pub all_writes : World → List Leaf → List Write
-all_writes w leaves = flat_map (writes w leaves) leaves
+all_writes w front = flat_map (writes w front) front
 
 -- the store with these numbers written; a write outside changes nothing
 abbrev pub after : List Write → Store → Store
@@ -162,20 +162,26 @@ after (x ∷ rest) store = after rest (with_word store x.object x.index x.bits)
 
 -- ---- clean clocks
 
--- how many elements an object has that may be written twice: a register is one; a RAM's words are counted by its uses
-abbrev pub own_words : Option Kind → ℕ
-own_words (Some (kind.Reg w s init)) = 1
-own_words (Some (kind.Array w s n init)) = n
-own_words _ = 0
+-- how many cells of registers an object has: a register is one, an array has one for each element
+abbrev pub register_cells : Option Kind → ℕ
+register_cells (Some (kind.Reg w s init)) = 1
+register_cells (Some (kind.Array w s n init)) = n
+register_cells _ = 0
 
--- the registers and the elements inside their arrays that are written
-abbrev pub places : List Kind → List Write → List (ℕ × ℕ)
-places kinds [] = []
-places kinds (x ∷ rest) = if nat_lt x.index (own_words (slice_get kinds x.object)) then (x.object, x.index) ∷ places kinds rest else places kinds rest
+-- how many words an object has in a memory: a RAM's and a ROM's, which are counted by its uses
+abbrev pub memory_words : Option Kind → ℕ
+memory_words (Some (kind.Ram w s n init)) = n
+memory_words (Some (kind.Rom w s n init)) = n
+memory_words _ = 0
+
+-- the registers and the elements inside their arrays that are written, as object and index
+abbrev pub cells_written : List Kind → List Write → List (ℕ × ℕ)
+cells_written kinds [] = []
+cells_written kinds (x ∷ rest) = if nat_lt x.index (register_cells (slice_get kinds x.object)) then (x.object, x.index) ∷ cells_written kinds rest else cells_written kinds rest
 
 -- the signals that an action assigns
 abbrev pub signals_of : Leaf → List ℕ
-signals_of (acts n (Assign (ToSignal k) e)) = k ∷ []
+signals_of (does n (Assign (ToSignal k) e)) = k ∷ []
 signals_of _ = []
 
 -- the RAMs and ROMs of which an expression reads a word, each as often as it does
@@ -205,17 +211,21 @@ action_uses (Send chan e) = reads e
 action_uses (Receive chan t) = target_uses t
 
 abbrev pub leaf_uses : Leaf → List ℕ
-leaf_uses (acts n a) = action_uses a
+leaf_uses (does n a) = action_uses a
 leaf_uses (chooses_from n cases) = []
 
--- each number of a list once
-abbrev pub once : List ℕ → List ℕ
-once [] = []
-once (k ∷ rest) = if list_any (λ j. j == k) rest then once rest else k ∷ once rest
+-- the number of an action
+abbrev pub leaf_number : Leaf → ℕ
+leaf_number (does n a) = n
+leaf_number (chooses_from n cases) = n
 
--- the uses of RAMs and ROMs in a clock: of each action and each evaluated condition once
-abbrev pub uses : List Leaf → List Condition → List ℕ
-uses leaves conditions = flat_map (λ l. once (leaf_uses l)) leaves ++ flat_map (λ c. once (reads c.value)) conditions
+-- the number of an action or condition that accesses object k, where it does
+abbrev pub user : ℕ → ℕ → List ℕ → List ℕ
+user k n accessed = if list_any (λ j. j == k) accessed then n ∷ [] else []
+
+-- the uses of a RAM or ROM in a clock, by their numbers: the actions of the front and the evaluated conditions that access it
+abbrev pub users : ℕ → List Leaf → List Condition → List ℕ
+users k front conditions = flat_map (λ l. user k (leaf_number l) (leaf_uses l)) front ++ flat_map (λ c. user k c.number (reads c.value)) conditions
 
 -- the channels on which sends and receives are offered, those of all cases of a `prialt` with them
 abbrev pub case_sends : Cases → List ℕ
@@ -229,28 +239,28 @@ case_receives (case_of n (Sends chan e) body rest) = case_receives rest
 case_receives (case_of n (Receives chan t) body rest) = chan ∷ case_receives rest
 
 abbrev pub send_offers : Leaf → List ℕ
-send_offers (acts n (Send chan e)) = chan ∷ []
-send_offers (acts n a) = []
+send_offers (does n (Send chan e)) = chan ∷ []
+send_offers (does n a) = []
 send_offers (chooses_from n cases) = case_sends cases
 
 abbrev pub receive_offers : Leaf → List ℕ
-receive_offers (acts n (Receive chan t)) = chan ∷ []
-receive_offers (acts n a) = []
+receive_offers (does n (Receive chan t)) = chan ∷ []
+receive_offers (does n a) = []
 receive_offers (chooses_from n cases) = case_receives cases
 
--- Nothing is used twice in the clock.
-pub record IsClean (w : World) (leaves : List Leaf) (conditions : List Condition) : Type 0 where
-  pub written : AllPairs ◌≢◌ (places w.kinds (all_writes w leaves))
-  pub assigned : AllPairs ◌≢◌ (flat_map signals_of leaves)
-  pub accessed : AllPairs ◌≢◌ (uses leaves conditions)
-  pub sends : AllPairs ◌≢◌ (flat_map send_offers leaves)
-  pub receives : AllPairs ◌≢◌ (flat_map receive_offers leaves)
+-- Nothing is used twice in the clock: all uses of a RAM or ROM are one, since a condition can be evaluated more than once.
+pub record IsClean (w : World) (front : List Leaf) (conditions : List Condition) : Type 0 where
+  pub written : AllPairs ◌≢◌ (cells_written w.kinds (all_writes w front))
+  pub assigned : AllPairs ◌≢◌ (flat_map signals_of front)
+  pub accessed : (k : ℕ) → AllPairs ◌≡◌ (users k front conditions)
+  pub sends : AllPairs ◌≢◌ (flat_map send_offers front)
+  pub receives : AllPairs ◌≢◌ (flat_map receive_offers front)
 
 -- ---- outputs
 
 -- the numbers of the outputs in order
 abbrev pub output_of : World → Kind → List ℕ
-output_of w (kind.Output width s pins value) = (val w (expression value)).bits ∷ []
+output_of w (kind.Output width s pins value) = (number_of w (expression value)).bits ∷ []
 output_of w _ = []
 
 abbrev pub outputs : World → List ℕ

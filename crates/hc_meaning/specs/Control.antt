@@ -5,7 +5,7 @@ use Rattle.std.specs.List.{list_any}
 use Rattle.hc_num.specs.Number.{Number}
 use Rattle.hc_core.specs.Program.{Expression}
 use Rattle.hc_meaning.specs.Residual.{Action, Offer, Sends, Receives, Residual, Skip, Act, Prialt, PrialtElse, Then, Par, If, While, DoWhile, Switch, Branches, ended, ◌∥◌, Cases, no_case, case_of, Arms, no_arm, arm}
-use Rattle.hc_meaning.specs.Value.{World, val, holds}
+use Rattle.hc_meaning.specs.Value.{World, number_of, holds}
 
 -- ---- cases
 
@@ -51,31 +51,31 @@ together branches = if all_ended branches then Skip else Par branches
 
 abbrev mutual
   -- The statement with its control resolved: it stands at its next actions, or it is `Skip`.
-  pub adv : World → Residual → Residual
-  adv w Skip = Skip
-  adv w (Act n a) = Act n a
-  adv w (Prialt n cases) = Prialt n cases
-  adv w (PrialtElse n cases other) = if some_ready w cases then PrialtElse n cases other else adv w other
-  adv w (Then a b) = followed_by (adv w a) (adv w b) b
-  adv w (Par branches) = together (all_adv w branches)
-  adv w (If n c a b) = if holds (val w c) then adv w a else adv w b
-  adv w (While n c body) = looped (holds (val w c)) (adv w body) (While n c body)
-  adv w (DoWhile body n c) = looped true (adv w body) (While n c body)
-  adv w (Switch n e arms) = if is_chosen (val w e) arms then arm_adv w (val w e) arms else default_adv w arms
+  pub resolved : World → Residual → Residual
+  resolved w Skip = Skip
+  resolved w (Act n a) = Act n a
+  resolved w (Prialt n cases) = Prialt n cases
+  resolved w (PrialtElse n cases other) = if some_ready w cases then PrialtElse n cases other else resolved w other
+  resolved w (Then a b) = followed_by (resolved w a) (resolved w b) b
+  resolved w (Par branches) = together (all_resolved w branches)
+  resolved w (If n c a b) = if holds (number_of w c) then resolved w a else resolved w b
+  resolved w (While n c body) = looped (holds (number_of w c)) (resolved w body) (While n c body)
+  resolved w (DoWhile body n c) = looped true (resolved w body) (While n c body)
+  resolved w (Switch n e arms) = if is_chosen (number_of w e) arms then arm_resolved w (number_of w e) arms else default_resolved w arms
 
-  pub all_adv : World → Branches → Branches
-  all_adv w ended = ended
-  all_adv w (first ∥ rest) = adv w first ∥ all_adv w rest
+  pub all_resolved : World → Branches → Branches
+  all_resolved w ended = ended
+  all_resolved w (first ∥ rest) = resolved w first ∥ all_resolved w rest
 
   -- the first arm that a number chooses
-  pub arm_adv : World → Number → Arms → Residual
-  arm_adv w n no_arm = Skip
-  arm_adv w n (arm values other body rest) = if chooses n values then adv w body else arm_adv w n rest
+  pub arm_resolved : World → Number → Arms → Residual
+  arm_resolved w n no_arm = Skip
+  arm_resolved w n (arm values other body rest) = if chooses n values then resolved w body else arm_resolved w n rest
 
   -- the arm with the label `default`
-  pub default_adv : World → Arms → Residual
-  default_adv w no_arm = Skip
-  default_adv w (arm values other body rest) = if other then adv w body else default_adv w rest
+  pub default_resolved : World → Arms → Residual
+  default_resolved w no_arm = Skip
+  default_resolved w (arm values other body rest) = if other then resolved w body else default_resolved w rest
 
 -- a condition or selector with its number
 pub record Condition : Type 0 where
@@ -89,12 +89,12 @@ abbrev mutual
   evaluated w (Act n a) = []
   evaluated w (Prialt n cases) = []
   evaluated w (PrialtElse n cases other) = if some_ready w cases then [] else evaluated w other
-  evaluated w (Then a b) = evaluated w a ++ (if is_skip (adv w a) then evaluated w b else [])
+  evaluated w (Then a b) = evaluated w a ++ (if is_skip (resolved w a) then evaluated w b else [])
   evaluated w (Par branches) = all_evaluated w branches
-  evaluated w (If n c a b) = record { number = n; value = c } ∷ (if holds (val w c) then evaluated w a else evaluated w b)
-  evaluated w (While n c body) = record { number = n; value = c } ∷ (if holds (val w c) then evaluated w body else [])
-  evaluated w (DoWhile body n c) = evaluated w body ++ (if is_skip (adv w body) then record { number = n; value = c } ∷ [] else [])
-  evaluated w (Switch n e arms) = record { number = n; value = e } ∷ (if is_chosen (val w e) arms then arm_evaluated w (val w e) arms else default_evaluated w arms)
+  evaluated w (If n c a b) = record { number = n; value = c } ∷ (if holds (number_of w c) then evaluated w a else evaluated w b)
+  evaluated w (While n c body) = record { number = n; value = c } ∷ (if holds (number_of w c) then evaluated w body else [])
+  evaluated w (DoWhile body n c) = evaluated w body ++ (if is_skip (resolved w body) then record { number = n; value = c } ∷ [] else [])
+  evaluated w (Switch n e arms) = record { number = n; value = e } ∷ (if is_chosen (number_of w e) arms then arm_evaluated w (number_of w e) arms else default_evaluated w arms)
 
   pub all_evaluated : World → Branches → List Condition
   all_evaluated w ended = []
@@ -112,14 +112,14 @@ abbrev mutual
 
 -- an action that a thread stands at, with its number
 pub data Leaf : Type 0 where
-  acts : ℕ → Action → Leaf
+  does : ℕ → Action → Leaf
   chooses_from : ℕ → Cases → Leaf
 
 abbrev mutual
   -- the actions that a resolved statement stands at, in text order
   pub front : Residual → List Leaf
   front Skip = []
-  front (Act n a) = acts n a ∷ []
+  front (Act n a) = does n a ∷ []
   front (Prialt n cases) = chooses_from n cases ∷ []
   front (PrialtElse n cases other) = chooses_from n cases ∷ []
   front (Then a b) = front a

@@ -24,11 +24,15 @@ Store = List (List ℕ)
 abbrev pub words : Store → ℕ → List ℕ
 words store k = slice_index_or store k []
 
+-- the number at an index of an object; 0 outside
+abbrev pub word_in : Store → ℕ → ℕ → ℕ
+word_in store k i = slice_index_or (words store k) i 0
+
 -- so many numbers, those that are given first and then 0
 abbrev pub padded : ℕ → List ℕ → List ℕ
-padded zero given = []
+padded zero first = []
 padded (suc n) [] = 0 ∷ padded n []
-padded (suc n) (bits ∷ given) = bits ∷ padded n given
+padded (suc n) (bits ∷ first) = bits ∷ padded n first
 
 abbrev pub bits_of : List Number → List ℕ
 bits_of numbers = map (λ n. n.bits) numbers
@@ -59,12 +63,14 @@ pub record Instant : Type 0 where
   pub sends : List Bool
   pub receives : List Bool
 
--- What expressions are read in: the kinds of the objects, what they hold, the inputs in order, and the instant.
+-- What expressions are read in: the kinds of the objects, what they hold, the inputs in order, the instant, and the number of
+-- each RAM or ROM at each index.
 pub record World : Type 0 where
   pub kinds : List Kind
   pub store : Store
   pub inputs : List ℕ
   pub instant : Instant
+  pub word : ℕ → ℕ → ℕ
 
 -- a number with the type of an object; what is no object has no type
 abbrev pub typed : Option Kind → ℕ → Number
@@ -115,14 +121,14 @@ binary Both a b = truth (holds a && holds b)
 binary Either a b = truth (holds a || holds b)
 
 -- the number of an expression; an element or word outside is 0
-abbrev pub val : World → Expression → Number
-val w (Constant n) = n
-val w (Register k) = typed (slice_get w.kinds k) (slice_index_or (words w.store k) 0 0)
-val w (Element k i) = typed (slice_get w.kinds k) (slice_index_or (words w.store k) (val w i).bits 0)
-val w (Word k i) = typed (slice_get w.kinds k) (slice_index_or (words w.store k) (val w i).bits 0)
-val w (Signal k) = typed (slice_get w.kinds k) (slice_index_or w.instant.signals k 0)
-val w (Input k) = typed (slice_get w.kinds k) (slice_index_or w.inputs (inputs_before w.kinds k) 0)
-val w (Unary op a) = unary op (val w a)
-val w (Binary op a b) = binary op (val w a) (val w b)
-val w (Slice a high low) = bit_range (val w a) high low
-val w (Choice c a b) = if holds (val w c) then val w a else val w b
+abbrev pub number_of : World → Expression → Number
+number_of w (Constant n) = n
+number_of w (Register k) = typed (slice_get w.kinds k) (slice_index_or (words w.store k) 0 0)
+number_of w (Element k i) = typed (slice_get w.kinds k) (slice_index_or (words w.store k) (number_of w i).bits 0)
+number_of w (Word k i) = typed (slice_get w.kinds k) (w.word k (number_of w i).bits)
+number_of w (Signal k) = typed (slice_get w.kinds k) (slice_index_or w.instant.signals k 0)
+number_of w (Input k) = typed (slice_get w.kinds k) (slice_index_or w.inputs (inputs_before w.kinds k) 0)
+number_of w (Unary op a) = unary op (number_of w a)
+number_of w (Binary op a b) = binary op (number_of w a) (number_of w b)
+number_of w (Slice a high low) = bit_range (number_of w a) high low
+number_of w (Choice c a b) = if holds (number_of w c) then number_of w a else number_of w b

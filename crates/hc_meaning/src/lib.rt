@@ -1,6 +1,4 @@
-//! The clock law: what a core program does, clock by clock. `specs/` has it as definitions, and `laws` what follows of them.
+//! The clock law: what a core program does, clock by clock. `specs/` has it as definitions.
 #![tactic(auto)]
 
-mod laws;
 
-pub use laws::{every_clock_is_clean, runs_in_order};
