@@ -1,4 +1,6 @@
-//! The clock law: what a core program does, clock by clock. `specs/` has it as definitions.
+//! The clock law: what a core program does, clock by clock. `specs/` has it as definitions, and `laws` what follows of them.
 #![tactic(auto)]
 
+mod laws;
 
+pub use laws::clean_clock;
