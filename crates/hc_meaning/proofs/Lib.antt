@@ -1,2 +1,5 @@
+mod Programs
+mod Ran
 mod Rows
+mod RowsTwice
 pub mod Twice

@@ -1,141 +1,252 @@
--- Worked rows of the clock law, computed.
-use Rattle.std.proofs.Common.{◌≡◌, ℕ, zero, suc, List, [], ◌∷◌, map, false, refl}
+-- Worked rows of runs: what objects hold at each edge of clean clocks, and what outputs show.
+use Rattle.std.proofs.Common.{◌≡◌, ℕ, zero, suc, List, [], ◌∷◌, map, Bool, true, false, Some, None, refl}
 use Rattle.hc_num.specs.Number.{Number}
-use Rattle.hc_core.specs.Program as p
-use Rattle.hc_core.specs.Program.{Constant, Register, Element, Signal, Input, Binary, ToRegister, ToElement, ToSignal, stop, ◌⨾◌}
-use Rattle.hc_core.specs.declared.expr.BinOp.TheVariants.{Add, Lt}
-use Rattle.hc_core.specs.Read.{expression}
+use Rattle.hc_tree.specs.declared.place.Place.{Place}
+use Rattle.hc_core.specs.Read.{expression, target, statement, statements_in, cases_in, arms_in}
+use Rattle.hc_core.specs.declared.expr.BinOp.TheVariants.{Add, Lt, Ne, Eq}
+use Rattle.hc_core.specs.declared.expr.Expr.{Expr}
 use Rattle.hc_core.specs.declared.expr.Expr.TheVariants as e
+use Rattle.hc_core.specs.declared.expr.Expr.TheBlock as eb
+use Rattle.hc_core.specs.declared.stmt.Stmt.{Stmt}
+use Rattle.hc_core.specs.declared.stmt.Stmt.TheVariants as s
+use Rattle.hc_core.specs.declared.stmt.Case.{Case}
+use Rattle.hc_core.specs.declared.stmt.Case.TheVariants as c
+use Rattle.hc_core.specs.declared.stmt.Case.TheBlock as sb
+use Rattle.hc_core.specs.declared.stmt.Arm.{Arm}
+use Rattle.hc_core.specs.declared.stmt.Target.TheVariants as t
 use Rattle.hc_core.specs.declared.object.Kind.{Kind}
 use Rattle.hc_core.specs.declared.object.Kind.TheVariants as kind
-use Rattle.hc_tree.specs.declared.place.Place.{Place}
+use Rattle.hc_core.specs.declared.object.Object.{Object}
+use Rattle.hc_core.specs.declared.object.Core.{Core}
 use Rattle.hc_meaning.specs.Residual.{residual}
-use Rattle.hc_meaning.specs.Value.{Instant, initial, words}
-use Rattle.hc_meaning.specs.Control.{resolved, front}
-use Rattle.hc_meaning.specs.Clock.{shown_by, behind_edge, all_writes, after, outputs}
-use Rattle.hc_meaning.specs.Run.{State, world_of}
+use Rattle.hc_meaning.proofs.Programs.{here, number, object, core, no_inputs, reg, array, ram, rom, sig, chan, const, sets, takes, counts, delay, par, seq, sends, receives, waits_for, receive_case, send_case, arm_of}
+use Rattle.hc_meaning.proofs.Ran.{Holds, holds, Shows, shows}
 
-here : Place
-here = record { line = 1; column = 1 }
+-- the input 1 in each clock of an even number, and in clock 1 alone
+abbrev every_other : ℕ → List ℕ
+every_other zero = 1 ∷ []
+every_other (suc zero) = 0 ∷ []
+every_other (suc (suc t)) = every_other t
 
-number : ℕ → ℕ → Number
-number width bits = record { width = width; signed = false; bits = bits }
+abbrev second_alone : ℕ → List ℕ
+second_alone (suc zero) = 1 ∷ []
+second_alone _ = 0 ∷ []
 
--- nothing is assigned, sent or received
-quiet : Instant
-quiet = record { signals = []; sends = []; receives = [] }
-
--- what the front gives where nothing is known, and then three times where that is known: enough for the rows below
-settled : List Kind → List ℕ → State → ℕ → Instant
-settled kinds inputs s zero = quiet
-settled kinds inputs s (suc n) =
-    let w = world_of kinds inputs s (settled kinds inputs s n) in shown_by w (front (resolved w s.rest))
-
-next : List Kind → List ℕ → State → State
-next kinds inputs s =
-    let w = world_of kinds inputs s (settled kinds inputs s 3) in
-    let leaves = front (resolved w s.rest) in
-    record { rest = behind_edge w leaves (resolved w s.rest); store = after (all_writes w leaves) s.store }
-
-edge : List Kind → (ℕ → List ℕ) → p.Statement → ℕ → State
-edge kinds trace main zero = record { rest = (residual main 0).0; store = initial kinds }
-edge kinds trace main (suc t) = next kinds (trace t) (edge kinds trace main t)
-
--- what an object holds at edges 0 to 5
-held : List Kind → p.Statement → ℕ → List (List ℕ)
-held kinds main k = map (λ t. words (edge kinds (λ t. []) main t).store k) (0 ∷ 1 ∷ 2 ∷ 3 ∷ 4 ∷ 5 ∷ [])
-
-reg : ℕ → ℕ → Kind
-reg width bits = kind.Reg width false (number width bits)
-
-sets : ℕ → ℕ → ℕ → p.Statement
-sets k width bits = p.Assign here (ToRegister k) (Constant (number width bits))
-
-counts : ℕ → ℕ → p.Statement
-counts k width = p.Assign here (ToRegister k) (Binary Add (Register k) (Constant (number width 1)))
+abbrev chooses : Stmt
+chooses = s.Switch here (e.Reg 0) (arm_of (1 ∷ 2 ∷ []) false (sets 1 5 ∷ []) ∷ arm_of (3 ∷ []) false (sets 1 6 ∷ []) ∷ arm_of [] true (sets 1 9 ∷ []) ∷ [])
 
 -- `x = 5; delay; x = x + 1;`
-row_sequence : held (reg 4 0 ∷ []) (p.Seq here (sets 0 4 5 ⨾ p.Delay here ⨾ counts 0 4 ⨾ stop)) 0 ≡ (0 ∷ []) ∷ (5 ∷ []) ∷ (5 ∷ []) ∷ (6 ∷ []) ∷ (6 ∷ []) ∷ (6 ∷ []) ∷ []
-unfolding held edge next settled reg sets counts number here quiet residual
-row_sequence = refl
+row_sequence : Holds (core (reg 4 0 ∷ []) (sets 0 5 ∷ delay ∷ counts 0 ∷ [])) no_inputs 4 (0 ∷ [])
+    (((0 ∷ []) ∷ (5 ∷ []) ∷ (5 ∷ []) ∷ (6 ∷ []) ∷ (6 ∷ []) ∷ []) ∷ [])
+unfolding residual statement statements_in cases_in arms_in target expression eb.hidden-the_row-Expr-0 sb.hidden-the_row-Stmt-1 sb.hidden-the_row-Stmt-2 sb.hidden-the_row-Arm-3 sb.hidden-the_row-Case-0 denote.Hole.Carrier.hidden
+row_sequence = holds _ _ _ _ _ refl refl
 
 -- `par { a = b; b = a; }` exchanges a and b
-row_exchange : map (λ k. words (edge (reg 4 1 ∷ reg 4 2 ∷ []) (λ t. []) (p.Par here (p.Assign here (ToRegister 0) (Register 1) ⨾ p.Assign here (ToRegister 1) (Register 0) ⨾ stop)) 1).store k) (0 ∷ 1 ∷ [])
-    ≡ (2 ∷ []) ∷ (1 ∷ []) ∷ []
-unfolding edge next settled reg number here quiet residual
-row_exchange = refl
+row_exchange : Holds (core (reg 4 1 ∷ reg 4 2 ∷ []) (par (takes 0 (e.Reg 1) ∷ takes 1 (e.Reg 0) ∷ []) ∷ [])) no_inputs 2 (0 ∷ 1 ∷ [])
+    (((1 ∷ []) ∷ (2 ∷ []) ∷ (2 ∷ []) ∷ []) ∷ ((2 ∷ []) ∷ (1 ∷ []) ∷ (1 ∷ []) ∷ []) ∷ [])
+unfolding residual statement statements_in cases_in arms_in target expression eb.hidden-the_row-Expr-0 sb.hidden-the_row-Stmt-1 sb.hidden-the_row-Stmt-2 sb.hidden-the_row-Arm-3 sb.hidden-the_row-Case-0 denote.Hole.Carrier.hidden
+row_exchange = holds _ _ _ _ _ refl refl
 
 -- `par { { delay; delay; } x = 1; } y = 1;`: the longest branch ends the `par`
-row_par_x : held (reg 1 0 ∷ reg 1 0 ∷ []) (p.Seq here (p.Par here (p.Seq here (p.Delay here ⨾ p.Delay here ⨾ stop) ⨾ sets 0 1 1 ⨾ stop) ⨾ sets 1 1 1 ⨾ stop)) 0
-    ≡ (0 ∷ []) ∷ (1 ∷ []) ∷ (1 ∷ []) ∷ (1 ∷ []) ∷ (1 ∷ []) ∷ (1 ∷ []) ∷ []
-unfolding held edge next settled reg sets number here quiet residual
-row_par_x = refl
+row_par : Holds (core (reg 4 0 ∷ reg 4 0 ∷ []) (par (seq (delay ∷ delay ∷ []) ∷ sets 0 1 ∷ []) ∷ sets 1 1 ∷ [])) no_inputs 4 (0 ∷ 1 ∷ [])
+    (((0 ∷ []) ∷ (1 ∷ []) ∷ (1 ∷ []) ∷ (1 ∷ []) ∷ (1 ∷ []) ∷ []) ∷ ((0 ∷ []) ∷ (0 ∷ []) ∷ (0 ∷ []) ∷ (1 ∷ []) ∷ (1 ∷ []) ∷ []) ∷ [])
+unfolding residual statement statements_in cases_in arms_in target expression eb.hidden-the_row-Expr-0 sb.hidden-the_row-Stmt-1 sb.hidden-the_row-Stmt-2 sb.hidden-the_row-Arm-3 sb.hidden-the_row-Case-0 denote.Hole.Carrier.hidden
+row_par = holds _ _ _ _ _ refl refl
 
-row_par_y : held (reg 1 0 ∷ reg 1 0 ∷ []) (p.Seq here (p.Par here (p.Seq here (p.Delay here ⨾ p.Delay here ⨾ stop) ⨾ sets 0 1 1 ⨾ stop) ⨾ sets 1 1 1 ⨾ stop)) 1
-    ≡ (0 ∷ []) ∷ (0 ∷ []) ∷ (0 ∷ []) ∷ (1 ∷ []) ∷ (1 ∷ []) ∷ (1 ∷ []) ∷ []
-unfolding held edge next settled reg sets number here quiet residual
-row_par_y = refl
+-- `par { } x = 1;`: a `par` without branches takes no clock
+row_empty_par : Holds (core (reg 4 0 ∷ []) (par [] ∷ sets 0 1 ∷ [])) no_inputs 1 (0 ∷ [])
+    (((0 ∷ []) ∷ (1 ∷ []) ∷ []) ∷ [])
+unfolding residual statement statements_in cases_in arms_in target expression eb.hidden-the_row-Expr-0 sb.hidden-the_row-Stmt-1 sb.hidden-the_row-Stmt-2 sb.hidden-the_row-Arm-3 sb.hidden-the_row-Case-0 denote.Hole.Carrier.hidden
+row_empty_par = holds _ _ _ _ _ refl refl
+
+-- `while (1) par { if (i.x) a = a + 1; b = b + 1; }` with the inputs 1, 0, 1
+row_if : Holds (core (kind.Input 1 false [] ∷ reg 4 0 ∷ reg 4 0 ∷ []) (s.While here (const 1 1) (par ((s.If here (e.Input 0) (counts 1) s.Skip) ∷ counts 2 ∷ [])) ∷ [])) every_other 3 (1 ∷ 2 ∷ [])
+    (((0 ∷ []) ∷ (1 ∷ []) ∷ (1 ∷ []) ∷ (2 ∷ []) ∷ []) ∷ ((0 ∷ []) ∷ (1 ∷ []) ∷ (2 ∷ []) ∷ (3 ∷ []) ∷ []) ∷ [])
+unfolding residual statement statements_in cases_in arms_in target expression eb.hidden-the_row-Expr-0 sb.hidden-the_row-Stmt-1 sb.hidden-the_row-Stmt-2 sb.hidden-the_row-Arm-3 sb.hidden-the_row-Case-0 denote.Hole.Carrier.hidden
+row_if = holds _ _ _ _ _ refl refl
+
+-- an `if` that doesn't hold takes its other branch
+row_else : Holds (core (reg 4 0 ∷ reg 4 0 ∷ []) (s.If here (e.Binary Eq (e.Reg 0) (const 4 1)) (sets 1 5) (sets 1 7) ∷ [])) no_inputs 1 (1 ∷ [])
+    (((0 ∷ []) ∷ (7 ∷ []) ∷ []) ∷ [])
+unfolding residual statement statements_in cases_in arms_in target expression eb.hidden-the_row-Expr-0 sb.hidden-the_row-Stmt-1 sb.hidden-the_row-Stmt-2 sb.hidden-the_row-Arm-3 sb.hidden-the_row-Case-0 denote.Hole.Carrier.hidden
+row_else = holds _ _ _ _ _ refl refl
 
 -- `while (1) { if (i.x) a = a + 1; b = b + 1; }` with the inputs 0, 1, 0, 0: an `if` that is false takes no clock
-ticks : ℕ → List ℕ
-ticks (suc zero) = 1 ∷ []
-ticks _ = 0 ∷ []
-
-loop : p.Statement
-loop = p.While here (Constant (number 1 1)) (p.Seq here (p.If here (Input 0) (counts 1 4) p.Skip ⨾ counts 2 4 ⨾ stop))
-
-looped : ℕ → List (List ℕ)
-looped k = map (λ t. words (edge (kind.Input 1 false [] ∷ reg 4 0 ∷ reg 4 0 ∷ []) ticks loop t).store k) (1 ∷ 2 ∷ 3 ∷ 4 ∷ [])
-
-row_loop : map looped (1 ∷ 2 ∷ []) ≡ ((0 ∷ []) ∷ (1 ∷ []) ∷ (1 ∷ []) ∷ (1 ∷ []) ∷ []) ∷ ((1 ∷ []) ∷ (1 ∷ []) ∷ (2 ∷ []) ∷ (3 ∷ []) ∷ []) ∷ []
-unfolding looped edge next settled reg counts number here quiet residual ticks loop
-row_loop = refl
-
--- `par { { c ! 7; z = 1; } { delay; delay; c ? x; } }`: a send waits for its partner
-talks : p.Statement
-talks = p.Par here (p.Seq here (p.Send here 0 (Constant (number 4 7)) ⨾ sets 2 1 1 ⨾ stop) ⨾ p.Seq here (p.Delay here ⨾ p.Delay here ⨾ p.Receive here 0 (ToRegister 1) ⨾ stop) ⨾ stop)
-
-row_channel : map (λ k. held (kind.Chan 4 false 0 ∷ reg 4 0 ∷ reg 1 0 ∷ []) talks k) (1 ∷ 2 ∷ [])
-    ≡ ((0 ∷ []) ∷ (0 ∷ []) ∷ (0 ∷ []) ∷ (7 ∷ []) ∷ (7 ∷ []) ∷ (7 ∷ []) ∷ []) ∷ ((0 ∷ []) ∷ (0 ∷ []) ∷ (0 ∷ []) ∷ (0 ∷ []) ∷ (1 ∷ []) ∷ (1 ∷ []) ∷ []) ∷ []
-unfolding held edge next settled reg sets number here quiet residual talks
-row_channel = refl
-
--- `par { a ! 1; b ! 2; prialt { case b ? x: break; case a ? x: break; } }`: the first ready case is taken
-row_prialt : held (kind.Chan 4 false 0 ∷ kind.Chan 4 false 0 ∷ reg 4 0 ∷ [])
-    (p.Par here (p.Send here 0 (Constant (number 4 1)) ⨾ p.Send here 1 (Constant (number 4 2)) ⨾ p.Prialt here (p.receive_case 1 (ToRegister 2) (p.Seq here stop) (p.receive_case 0 (ToRegister 2) (p.Seq here stop) p.no_case)) ⨾ stop)) 2
-    ≡ (0 ∷ []) ∷ (2 ∷ []) ∷ (2 ∷ []) ∷ (2 ∷ []) ∷ (2 ∷ []) ∷ (2 ∷ []) ∷ []
-unfolding held edge next settled reg number here quiet residual
-row_prialt = refl
-
--- `prialt { case c ? x: break; default: y = 1; break; }`: the default takes no clock of its own
-row_default : held (kind.Chan 4 false 0 ∷ reg 4 0 ∷ reg 1 0 ∷ []) (p.PrialtElse here (p.receive_case 0 (ToRegister 1) (p.Seq here stop) p.no_case) (p.Seq here (sets 2 1 1 ⨾ stop))) 2
-    ≡ (0 ∷ []) ∷ (1 ∷ []) ∷ (1 ∷ []) ∷ (1 ∷ []) ∷ (1 ∷ []) ∷ (1 ∷ []) ∷ []
-unfolding held edge next settled reg sets number here quiet residual
-row_default = refl
-
--- `par { s = 5; x = s; } y = s;`: a signal has its value in its clock alone
-row_signal : map (λ k. held (kind.Signal 4 false (number 4 0) ∷ reg 4 0 ∷ reg 4 9 ∷ [])
-    (p.Seq here (p.Par here (p.Assign here (ToSignal 0) (Constant (number 4 5)) ⨾ p.Assign here (ToRegister 1) (Signal 0) ⨾ stop) ⨾ p.Assign here (ToRegister 2) (Signal 0) ⨾ stop)) k) (1 ∷ 2 ∷ [])
-    ≡ ((0 ∷ []) ∷ (5 ∷ []) ∷ (5 ∷ []) ∷ (5 ∷ []) ∷ (5 ∷ []) ∷ (5 ∷ []) ∷ []) ∷ ((9 ∷ []) ∷ (9 ∷ []) ∷ (0 ∷ []) ∷ (0 ∷ []) ∷ (0 ∷ []) ∷ (0 ∷ []) ∷ []) ∷ []
-unfolding held edge next settled reg number here quiet residual
-row_signal = refl
-
--- `x = a[i]; a[i] = 7;` with i outside: 0 is read, and nothing is written
-row_outside : map (λ k. held (kind.Array 4 false 3 (number 4 1 ∷ number 4 2 ∷ number 4 3 ∷ []) ∷ reg 2 3 ∷ reg 4 9 ∷ [])
-    (p.Seq here (p.Assign here (ToRegister 2) (Element 0 (Register 1)) ⨾ p.Assign here (ToElement 0 (Register 1)) (Constant (number 4 7)) ⨾ stop)) k) (0 ∷ 2 ∷ [])
-    ≡ ((1 ∷ 2 ∷ 3 ∷ []) ∷ (1 ∷ 2 ∷ 3 ∷ []) ∷ (1 ∷ 2 ∷ 3 ∷ []) ∷ (1 ∷ 2 ∷ 3 ∷ []) ∷ (1 ∷ 2 ∷ 3 ∷ []) ∷ (1 ∷ 2 ∷ 3 ∷ []) ∷ [])
-    ∷ ((9 ∷ []) ∷ (0 ∷ []) ∷ (0 ∷ []) ∷ (0 ∷ []) ∷ (0 ∷ []) ∷ (0 ∷ []) ∷ []) ∷ []
-unfolding held edge next settled reg number here quiet residual
-row_outside = refl
+row_loop : Holds (core (kind.Input 1 false [] ∷ reg 4 0 ∷ reg 4 0 ∷ []) (s.While here (const 1 1) (seq ((s.If here (e.Input 0) (counts 1) s.Skip) ∷ counts 2 ∷ [])) ∷ [])) second_alone 4 (1 ∷ 2 ∷ [])
+    (((0 ∷ []) ∷ (0 ∷ []) ∷ (1 ∷ []) ∷ (1 ∷ []) ∷ (1 ∷ []) ∷ []) ∷ ((0 ∷ []) ∷ (1 ∷ []) ∷ (1 ∷ []) ∷ (2 ∷ []) ∷ (3 ∷ []) ∷ []) ∷ [])
+unfolding residual statement statements_in cases_in arms_in target expression eb.hidden-the_row-Expr-0 sb.hidden-the_row-Stmt-1 sb.hidden-the_row-Stmt-2 sb.hidden-the_row-Arm-3 sb.hidden-the_row-Case-0 denote.Hole.Carrier.hidden
+row_loop = holds _ _ _ _ _ refl refl
 
 -- `for (i = 0; i < 2; i++) a = a + 1; b = 1;`
-row_for : map (λ k. map (λ t. words (edge (reg 2 0 ∷ reg 4 0 ∷ reg 1 0 ∷ []) (λ t. []) (p.Seq here
-    (p.Seq here (sets 0 2 0 ⨾ p.While here (Binary Lt (Register 0) (Constant (number 2 2))) (p.Seq here (counts 1 4 ⨾ counts 0 2 ⨾ stop)) ⨾ stop) ⨾ sets 2 1 1 ⨾ stop)) t).store k) (1 ∷ 2 ∷ 3 ∷ 4 ∷ 5 ∷ 6 ∷ [])) (1 ∷ 2 ∷ [])
-    ≡ ((0 ∷ []) ∷ (1 ∷ []) ∷ (1 ∷ []) ∷ (2 ∷ []) ∷ (2 ∷ []) ∷ (2 ∷ []) ∷ []) ∷ ((0 ∷ []) ∷ (0 ∷ []) ∷ (0 ∷ []) ∷ (0 ∷ []) ∷ (0 ∷ []) ∷ (1 ∷ []) ∷ []) ∷ []
-unfolding edge next settled reg sets counts number here quiet residual
-row_for = refl
+row_for : Holds (core (reg 2 0 ∷ reg 4 0 ∷ reg 4 0 ∷ []) (s.Assign here (t.Reg 0) (const 2 0) ∷ s.While here (e.Binary Lt (e.Reg 0) (const 2 2)) (seq (counts 1 ∷ s.Assign here (t.Reg 0) (e.Binary Add (e.Reg 0) (const 2 1)) ∷ [])) ∷ sets 2 1 ∷ [])) no_inputs 6 (1 ∷ 2 ∷ [])
+    (((0 ∷ []) ∷ (0 ∷ []) ∷ (1 ∷ []) ∷ (1 ∷ []) ∷ (2 ∷ []) ∷ (2 ∷ []) ∷ (2 ∷ []) ∷ []) ∷ ((0 ∷ []) ∷ (0 ∷ []) ∷ (0 ∷ []) ∷ (0 ∷ []) ∷ (0 ∷ []) ∷ (0 ∷ []) ∷ (1 ∷ []) ∷ []) ∷ [])
+unfolding residual statement statements_in cases_in arms_in target expression eb.hidden-the_row-Expr-0 sb.hidden-the_row-Stmt-1 sb.hidden-the_row-Stmt-2 sb.hidden-the_row-Arm-3 sb.hidden-the_row-Case-0 denote.Hole.Carrier.hidden
+row_for = holds _ _ _ _ _ refl refl
 
--- an output shows a register's number of the same clock: `x = 15;` with x as the output
-row_output : map (λ t. outputs (world_of (reg 4 0 ∷ kind.Output 4 false [] (e.Reg 0) ∷ []) [] (edge (reg 4 0 ∷ kind.Output 4 false [] (e.Reg 0) ∷ []) (λ t. []) (sets 0 4 15) t) quiet)) (0 ∷ 1 ∷ []) ≡ (0 ∷ []) ∷ (15 ∷ []) ∷ []
-unfolding edge next settled reg sets number here quiet residual expression
-row_output = refl
+-- `par { a[0] = 0; a[1] = 1; a[2] = 2; a[3] = 3; }`: elements apart are written in one clock
+row_array : Holds (core (array 4 [] ∷ []) (par (s.Assign here (t.Element 0 (const 2 0)) (const 4 0) ∷ s.Assign here (t.Element 0 (const 2 1)) (const 4 1) ∷ s.Assign here (t.Element 0 (const 2 2)) (const 4 2) ∷ s.Assign here (t.Element 0 (const 2 3)) (const 4 3) ∷ []) ∷ [])) no_inputs 1 (0 ∷ [])
+    (((0 ∷ 0 ∷ 0 ∷ 0 ∷ []) ∷ (0 ∷ 1 ∷ 2 ∷ 3 ∷ []) ∷ []) ∷ [])
+unfolding residual statement statements_in cases_in arms_in target expression eb.hidden-the_row-Expr-0 sb.hidden-the_row-Stmt-1 sb.hidden-the_row-Stmt-2 sb.hidden-the_row-Arm-3 sb.hidden-the_row-Case-0 denote.Hole.Carrier.hidden
+row_array = holds _ _ _ _ _ refl refl
+
+-- `x = a[i]; a[i] = 7;` with i outside: 0 is read, and nothing is written
+row_outside : Holds (core (array 3 (1 ∷ 2 ∷ 3 ∷ []) ∷ reg 2 3 ∷ reg 4 9 ∷ []) (takes 2 (e.Element 0 (e.Reg 1)) ∷ s.Assign here (t.Element 0 (e.Reg 1)) (const 4 7) ∷ [])) no_inputs 2 (0 ∷ 2 ∷ [])
+    (((1 ∷ 2 ∷ 3 ∷ []) ∷ (1 ∷ 2 ∷ 3 ∷ []) ∷ (1 ∷ 2 ∷ 3 ∷ []) ∷ []) ∷ ((9 ∷ []) ∷ (0 ∷ []) ∷ (0 ∷ []) ∷ []) ∷ [])
+unfolding residual statement statements_in cases_in arms_in target expression eb.hidden-the_row-Expr-0 sb.hidden-the_row-Stmt-1 sb.hidden-the_row-Stmt-2 sb.hidden-the_row-Arm-3 sb.hidden-the_row-Case-0 denote.Hole.Carrier.hidden
+row_outside = holds _ _ _ _ _ refl refl
+
+-- `switch (x) { case 1: case 2: y = 5; break; case 3: y = 6; break; default: y = 9; }` with x = 1
+row_switch_first : Holds (core (reg 4 1 ∷ reg 4 0 ∷ []) (chooses ∷ [])) no_inputs 1 (1 ∷ [])
+    (((0 ∷ []) ∷ (5 ∷ []) ∷ []) ∷ [])
+unfolding residual statement statements_in cases_in arms_in target expression eb.hidden-the_row-Expr-0 sb.hidden-the_row-Stmt-1 sb.hidden-the_row-Stmt-2 sb.hidden-the_row-Arm-3 sb.hidden-the_row-Case-0 denote.Hole.Carrier.hidden
+row_switch_first = holds _ _ _ _ _ refl refl
+
+-- `switch (x) { case 1: case 2: y = 5; break; case 3: y = 6; break; default: y = 9; }` with x = 2
+row_switch_second : Holds (core (reg 4 2 ∷ reg 4 0 ∷ []) (chooses ∷ [])) no_inputs 1 (1 ∷ [])
+    (((0 ∷ []) ∷ (5 ∷ []) ∷ []) ∷ [])
+unfolding residual statement statements_in cases_in arms_in target expression eb.hidden-the_row-Expr-0 sb.hidden-the_row-Stmt-1 sb.hidden-the_row-Stmt-2 sb.hidden-the_row-Arm-3 sb.hidden-the_row-Case-0 denote.Hole.Carrier.hidden
+row_switch_second = holds _ _ _ _ _ refl refl
+
+-- `switch (x) { case 1: case 2: y = 5; break; case 3: y = 6; break; default: y = 9; }` with x = 3
+row_switch_third : Holds (core (reg 4 3 ∷ reg 4 0 ∷ []) (chooses ∷ [])) no_inputs 1 (1 ∷ [])
+    (((0 ∷ []) ∷ (6 ∷ []) ∷ []) ∷ [])
+unfolding residual statement statements_in cases_in arms_in target expression eb.hidden-the_row-Expr-0 sb.hidden-the_row-Stmt-1 sb.hidden-the_row-Stmt-2 sb.hidden-the_row-Arm-3 sb.hidden-the_row-Case-0 denote.Hole.Carrier.hidden
+row_switch_third = holds _ _ _ _ _ refl refl
+
+-- `switch (x) { case 1: case 2: y = 5; break; case 3: y = 6; break; default: y = 9; }` with x = 0
+row_switch_default : Holds (core (reg 4 0 ∷ reg 4 0 ∷ []) (chooses ∷ [])) no_inputs 1 (1 ∷ [])
+    (((0 ∷ []) ∷ (9 ∷ []) ∷ []) ∷ [])
+unfolding residual statement statements_in cases_in arms_in target expression eb.hidden-the_row-Expr-0 sb.hidden-the_row-Stmt-1 sb.hidden-the_row-Stmt-2 sb.hidden-the_row-Arm-3 sb.hidden-the_row-Case-0 denote.Hole.Carrier.hidden
+row_switch_default = holds _ _ _ _ _ refl refl
+
+-- a `default` that stands first is for what no label has
+row_default_first : Holds (core (reg 4 1 ∷ reg 4 0 ∷ []) (s.Switch here (e.Reg 0) (arm_of [] true (sets 1 9 ∷ []) ∷ arm_of (1 ∷ []) false (sets 1 5 ∷ []) ∷ []) ∷ [])) no_inputs 1 (1 ∷ [])
+    (((0 ∷ []) ∷ (5 ∷ []) ∷ []) ∷ [])
+unfolding residual statement statements_in cases_in arms_in target expression eb.hidden-the_row-Expr-0 sb.hidden-the_row-Stmt-1 sb.hidden-the_row-Stmt-2 sb.hidden-the_row-Arm-3 sb.hidden-the_row-Case-0 denote.Hole.Carrier.hidden
+row_default_first = holds _ _ _ _ _ refl refl
+
+-- `switch (x) { case 1: delay; } y = 1;` with x = 0: without a default it is passed
+row_no_default : Holds (core (reg 4 0 ∷ reg 4 0 ∷ []) (s.Switch here (e.Reg 0) (arm_of (1 ∷ []) false (delay ∷ []) ∷ []) ∷ sets 1 1 ∷ [])) no_inputs 1 (1 ∷ [])
+    (((0 ∷ []) ∷ (1 ∷ []) ∷ []) ∷ [])
+unfolding residual statement statements_in cases_in arms_in target expression eb.hidden-the_row-Expr-0 sb.hidden-the_row-Stmt-1 sb.hidden-the_row-Stmt-2 sb.hidden-the_row-Arm-3 sb.hidden-the_row-Case-0 denote.Hole.Carrier.hidden
+row_no_default = holds _ _ _ _ _ refl refl
+
+-- `do { x = x + 1; } while (x != 3);`
+row_do : Holds (core (reg 4 0 ∷ []) (s.DoWhile here (counts 0) (e.Binary Ne (e.Reg 0) (const 4 3)) ∷ [])) no_inputs 4 (0 ∷ [])
+    (((0 ∷ []) ∷ (1 ∷ []) ∷ (2 ∷ []) ∷ (3 ∷ []) ∷ (3 ∷ []) ∷ []) ∷ [])
+unfolding residual statement statements_in cases_in arms_in target expression eb.hidden-the_row-Expr-0 sb.hidden-the_row-Stmt-1 sb.hidden-the_row-Stmt-2 sb.hidden-the_row-Arm-3 sb.hidden-the_row-Case-0 denote.Hole.Carrier.hidden
+row_do = holds _ _ _ _ _ refl refl
+
+-- `do { x = x + 1; } while (x == 1); y = 1;`: the body comes before the first test, and again where the test holds
+row_do_first : Holds (core (reg 4 0 ∷ reg 4 0 ∷ []) (s.DoWhile here (counts 0) (e.Binary Eq (e.Reg 0) (const 4 1)) ∷ sets 1 1 ∷ [])) no_inputs 3 (0 ∷ 1 ∷ [])
+    (((0 ∷ []) ∷ (1 ∷ []) ∷ (2 ∷ []) ∷ (2 ∷ []) ∷ []) ∷ ((0 ∷ []) ∷ (0 ∷ []) ∷ (0 ∷ []) ∷ (1 ∷ []) ∷ []) ∷ [])
+unfolding residual statement statements_in cases_in arms_in target expression eb.hidden-the_row-Expr-0 sb.hidden-the_row-Stmt-1 sb.hidden-the_row-Stmt-2 sb.hidden-the_row-Arm-3 sb.hidden-the_row-Case-0 denote.Hole.Carrier.hidden
+row_do_first = holds _ _ _ _ _ refl refl
+
+-- `par { { c ! 7; z = 1; } { delay; delay; c ? x; } }`: a send waits for its partner
+row_channel : Holds (core (chan ∷ reg 4 0 ∷ reg 4 0 ∷ []) (par (seq (sends 0 7 ∷ sets 2 1 ∷ []) ∷ seq (delay ∷ delay ∷ receives 0 1 ∷ []) ∷ []) ∷ [])) no_inputs 5 (1 ∷ 2 ∷ [])
+    (((0 ∷ []) ∷ (0 ∷ []) ∷ (0 ∷ []) ∷ (7 ∷ []) ∷ (7 ∷ []) ∷ (7 ∷ []) ∷ []) ∷ ((0 ∷ []) ∷ (0 ∷ []) ∷ (0 ∷ []) ∷ (0 ∷ []) ∷ (1 ∷ []) ∷ (1 ∷ []) ∷ []) ∷ [])
+unfolding residual statement statements_in cases_in arms_in target expression eb.hidden-the_row-Expr-0 sb.hidden-the_row-Stmt-1 sb.hidden-the_row-Stmt-2 sb.hidden-the_row-Arm-3 sb.hidden-the_row-Case-0 denote.Hole.Carrier.hidden
+row_channel = holds _ _ _ _ _ refl refl
+
+-- `par { c ! 1; { c ? x; c ? x; } }`: the second receive waits for good
+row_second_receive : Holds (core (chan ∷ reg 4 0 ∷ []) (par (sends 0 1 ∷ seq (receives 0 1 ∷ receives 0 1 ∷ []) ∷ []) ∷ [])) no_inputs 3 (1 ∷ [])
+    (((0 ∷ []) ∷ (1 ∷ []) ∷ (1 ∷ []) ∷ (1 ∷ []) ∷ []) ∷ [])
+unfolding residual statement statements_in cases_in arms_in target expression eb.hidden-the_row-Expr-0 sb.hidden-the_row-Stmt-1 sb.hidden-the_row-Stmt-2 sb.hidden-the_row-Arm-3 sb.hidden-the_row-Case-0 denote.Hole.Carrier.hidden
+row_second_receive = holds _ _ _ _ _ refl refl
+
+-- `par { c ? x; x = 5; }`: a receive that waits writes nothing
+row_waiting_receive : Holds (core (chan ∷ reg 4 3 ∷ []) (par (receives 0 1 ∷ sets 1 5 ∷ []) ∷ [])) no_inputs 2 (1 ∷ [])
+    (((3 ∷ []) ∷ (5 ∷ []) ∷ (5 ∷ []) ∷ []) ∷ [])
+unfolding residual statement statements_in cases_in arms_in target expression eb.hidden-the_row-Expr-0 sb.hidden-the_row-Stmt-1 sb.hidden-the_row-Stmt-2 sb.hidden-the_row-Arm-3 sb.hidden-the_row-Case-0 denote.Hole.Carrier.hidden
+row_waiting_receive = holds _ _ _ _ _ refl refl
+
+-- `par { a ! 1; b ! 2; prialt { case b ? x: break; case a ? x: break; } }`: the first ready case is taken
+row_prialt : Holds (core (chan ∷ chan ∷ reg 4 0 ∷ []) (par (sends 0 1 ∷ sends 1 2 ∷ s.Prialt here (receive_case 1 2 [] ∷ receive_case 0 2 [] ∷ []) None ∷ []) ∷ [])) no_inputs 3 (2 ∷ [])
+    (((0 ∷ []) ∷ (2 ∷ []) ∷ (2 ∷ []) ∷ (2 ∷ []) ∷ []) ∷ [])
+unfolding residual statement statements_in cases_in arms_in target expression eb.hidden-the_row-Expr-0 sb.hidden-the_row-Stmt-1 sb.hidden-the_row-Stmt-2 sb.hidden-the_row-Arm-3 sb.hidden-the_row-Case-0 denote.Hole.Carrier.hidden
+row_prialt = holds _ _ _ _ _ refl refl
+
+-- `par { a ! 1; prialt { case b ? x: break; case a ? x: y = 3; break; } }`: a case that isn't ready is not taken
+row_second_ready : Holds (core (chan ∷ chan ∷ reg 4 0 ∷ reg 4 0 ∷ []) (par (sends 0 1 ∷ s.Prialt here (receive_case 1 2 [] ∷ receive_case 0 2 (sets 3 3 ∷ []) ∷ []) None ∷ []) ∷ [])) no_inputs 2 (2 ∷ 3 ∷ [])
+    (((0 ∷ []) ∷ (1 ∷ []) ∷ (1 ∷ []) ∷ []) ∷ ((0 ∷ []) ∷ (0 ∷ []) ∷ (3 ∷ []) ∷ []) ∷ [])
+unfolding residual statement statements_in cases_in arms_in target expression eb.hidden-the_row-Expr-0 sb.hidden-the_row-Stmt-1 sb.hidden-the_row-Stmt-2 sb.hidden-the_row-Arm-3 sb.hidden-the_row-Case-0 denote.Hole.Carrier.hidden
+row_second_ready = holds _ _ _ _ _ refl refl
+
+-- `par { { c ! 1; z = 1; } prialt { case c ? x: y = 2; break; default: y = 3; break; } }`: the case takes a clock, then its arm, and the send is done
+row_receive_case : Holds (core (chan ∷ reg 4 0 ∷ reg 4 0 ∷ reg 4 0 ∷ []) (par (seq (sends 0 1 ∷ sets 3 1 ∷ []) ∷ s.Prialt here (receive_case 0 1 (sets 2 2 ∷ []) ∷ []) (Some (sets 2 3)) ∷ []) ∷ [])) no_inputs 2 (1 ∷ 2 ∷ 3 ∷ [])
+    (((0 ∷ []) ∷ (1 ∷ []) ∷ (1 ∷ []) ∷ []) ∷ ((0 ∷ []) ∷ (0 ∷ []) ∷ (2 ∷ []) ∷ []) ∷ ((0 ∷ []) ∷ (0 ∷ []) ∷ (1 ∷ []) ∷ []) ∷ [])
+unfolding residual statement statements_in cases_in arms_in target expression eb.hidden-the_row-Expr-0 sb.hidden-the_row-Stmt-1 sb.hidden-the_row-Stmt-2 sb.hidden-the_row-Arm-3 sb.hidden-the_row-Case-0 denote.Hole.Carrier.hidden
+row_receive_case = holds _ _ _ _ _ refl refl
+
+-- `par { { c ? x; z = 1; } prialt { case c ! 7: y = 2; break; } }`: the case sends its value, and the receive is done
+row_send_case : Holds (core (chan ∷ reg 4 0 ∷ reg 4 0 ∷ reg 4 0 ∷ []) (par (seq (receives 0 1 ∷ sets 3 1 ∷ []) ∷ waits_for (send_case 0 7 (sets 2 2 ∷ [])) ∷ []) ∷ [])) no_inputs 2 (1 ∷ 2 ∷ 3 ∷ [])
+    (((0 ∷ []) ∷ (7 ∷ []) ∷ (7 ∷ []) ∷ []) ∷ ((0 ∷ []) ∷ (0 ∷ []) ∷ (2 ∷ []) ∷ []) ∷ ((0 ∷ []) ∷ (0 ∷ []) ∷ (1 ∷ []) ∷ []) ∷ [])
+unfolding residual statement statements_in cases_in arms_in target expression eb.hidden-the_row-Expr-0 sb.hidden-the_row-Stmt-1 sb.hidden-the_row-Stmt-2 sb.hidden-the_row-Arm-3 sb.hidden-the_row-Case-0 denote.Hole.Carrier.hidden
+row_send_case = holds _ _ _ _ _ refl refl
+
+-- `par { prialt { case c ? x: break; } { delay; c ! 5; } } y = 1;`: without a ready case it waits
+row_waiting_prialt : Holds (core (chan ∷ reg 4 0 ∷ reg 4 0 ∷ []) (par (waits_for (receive_case 0 1 []) ∷ seq (delay ∷ sends 0 5 ∷ []) ∷ []) ∷ sets 2 1 ∷ [])) no_inputs 3 (1 ∷ 2 ∷ [])
+    (((0 ∷ []) ∷ (0 ∷ []) ∷ (5 ∷ []) ∷ (5 ∷ []) ∷ []) ∷ ((0 ∷ []) ∷ (0 ∷ []) ∷ (0 ∷ []) ∷ (1 ∷ []) ∷ []) ∷ [])
+unfolding residual statement statements_in cases_in arms_in target expression eb.hidden-the_row-Expr-0 sb.hidden-the_row-Stmt-1 sb.hidden-the_row-Stmt-2 sb.hidden-the_row-Arm-3 sb.hidden-the_row-Case-0 denote.Hole.Carrier.hidden
+row_waiting_prialt = holds _ _ _ _ _ refl refl
+
+-- `prialt { case c ? x: break; default: y = 1; break; }`: the default takes no clock of its own
+row_default : Holds (core (chan ∷ reg 4 0 ∷ reg 4 0 ∷ []) (s.Prialt here (receive_case 0 1 [] ∷ []) (Some (sets 2 1)) ∷ [])) no_inputs 2 (1 ∷ 2 ∷ [])
+    (((0 ∷ []) ∷ (0 ∷ []) ∷ (0 ∷ []) ∷ []) ∷ ((0 ∷ []) ∷ (1 ∷ []) ∷ (1 ∷ []) ∷ []) ∷ [])
+unfolding residual statement statements_in cases_in arms_in target expression eb.hidden-the_row-Expr-0 sb.hidden-the_row-Stmt-1 sb.hidden-the_row-Stmt-2 sb.hidden-the_row-Arm-3 sb.hidden-the_row-Case-0 denote.Hole.Carrier.hidden
+row_default = holds _ _ _ _ _ refl refl
+
+-- `par { s = 5; x = s; } y = s;`: a signal has its value in its clock alone, and else its default
+row_signal : Holds (core (sig 3 ∷ reg 4 0 ∷ reg 4 9 ∷ []) (par (s.Assign here (t.Signal 0) (const 4 5) ∷ takes 1 (e.Signal 0) ∷ []) ∷ takes 2 (e.Signal 0) ∷ [])) no_inputs 2 (1 ∷ 2 ∷ [])
+    (((0 ∷ []) ∷ (5 ∷ []) ∷ (5 ∷ []) ∷ []) ∷ ((9 ∷ []) ∷ (9 ∷ []) ∷ (3 ∷ []) ∷ []) ∷ [])
+unfolding residual statement statements_in cases_in arms_in target expression eb.hidden-the_row-Expr-0 sb.hidden-the_row-Stmt-1 sb.hidden-the_row-Stmt-2 sb.hidden-the_row-Arm-3 sb.hidden-the_row-Case-0 denote.Hole.Carrier.hidden
+row_signal = holds _ _ _ _ _ refl refl
+
+-- `par { x = t; t = s; s = 5; }`: a signal that reads a signal
+row_chain : Holds (core (sig 0 ∷ sig 0 ∷ reg 4 0 ∷ []) (par (takes 2 (e.Signal 1) ∷ s.Assign here (t.Signal 1) (e.Signal 0) ∷ s.Assign here (t.Signal 0) (const 4 5) ∷ []) ∷ [])) no_inputs 1 (2 ∷ [])
+    (((0 ∷ []) ∷ (5 ∷ []) ∷ []) ∷ [])
+unfolding residual statement statements_in cases_in arms_in target expression eb.hidden-the_row-Expr-0 sb.hidden-the_row-Stmt-1 sb.hidden-the_row-Stmt-2 sb.hidden-the_row-Arm-3 sb.hidden-the_row-Case-0 denote.Hole.Carrier.hidden
+row_chain = holds _ _ _ _ _ refl refl
+
+-- `par { s = m[1]; if (s == 6) x = 1; }`: a signal that reads a word decides an `if`
+row_word_then_signal : Holds (core (sig 0 ∷ ram 2 (4 ∷ 6 ∷ []) ∷ reg 4 0 ∷ []) (par (s.Assign here (t.Signal 0) (e.Word 1 (const 1 1)) ∷ s.If here (e.Binary Eq (e.Signal 0) (const 4 6)) (sets 2 1) s.Skip ∷ []) ∷ [])) no_inputs 1 (2 ∷ [])
+    (((0 ∷ []) ∷ (1 ∷ []) ∷ []) ∷ [])
+unfolding residual statement statements_in cases_in arms_in target expression eb.hidden-the_row-Expr-0 sb.hidden-the_row-Stmt-1 sb.hidden-the_row-Stmt-2 sb.hidden-the_row-Arm-3 sb.hidden-the_row-Case-0 denote.Hole.Carrier.hidden
+row_word_then_signal = holds _ _ _ _ _ refl refl
+
+-- `m[1] = 5; x = m[1];`
+row_ram : Holds (core (ram 4 [] ∷ reg 4 0 ∷ []) (s.Assign here (t.Word 0 (const 2 1)) (const 4 5) ∷ takes 1 (e.Word 0 (const 2 1)) ∷ [])) no_inputs 2 (0 ∷ 1 ∷ [])
+    (((0 ∷ 0 ∷ 0 ∷ 0 ∷ []) ∷ (0 ∷ 5 ∷ 0 ∷ 0 ∷ []) ∷ (0 ∷ 5 ∷ 0 ∷ 0 ∷ []) ∷ []) ∷ ((0 ∷ []) ∷ (0 ∷ []) ∷ (5 ∷ []) ∷ []) ∷ [])
+unfolding residual statement statements_in cases_in arms_in target expression eb.hidden-the_row-Expr-0 sb.hidden-the_row-Stmt-1 sb.hidden-the_row-Stmt-2 sb.hidden-the_row-Arm-3 sb.hidden-the_row-Case-0 denote.Hole.Carrier.hidden
+row_ram = holds _ _ _ _ _ refl refl
+
+-- `if (m[3] == 0) x = 1;`
+row_ram_condition : Holds (core (ram 4 [] ∷ reg 4 0 ∷ []) (s.If here (e.Binary Eq (e.Word 0 (const 2 3)) (const 4 0)) (sets 1 1) s.Skip ∷ [])) no_inputs 1 (1 ∷ [])
+    (((0 ∷ []) ∷ (1 ∷ []) ∷ []) ∷ [])
+unfolding residual statement statements_in cases_in arms_in target expression eb.hidden-the_row-Expr-0 sb.hidden-the_row-Stmt-1 sb.hidden-the_row-Stmt-2 sb.hidden-the_row-Arm-3 sb.hidden-the_row-Case-0 denote.Hole.Carrier.hidden
+row_ram_condition = holds _ _ _ _ _ refl refl
+
+-- `m[i] = 7; x = m[i];` with i outside: nothing is written, and 0 is read
+row_ram_outside : Holds (core (ram 3 [] ∷ reg 2 3 ∷ reg 4 9 ∷ []) (s.Assign here (t.Word 0 (e.Reg 1)) (const 4 7) ∷ takes 2 (e.Word 0 (e.Reg 1)) ∷ [])) no_inputs 2 (0 ∷ 2 ∷ [])
+    (((0 ∷ 0 ∷ 0 ∷ []) ∷ (0 ∷ 0 ∷ 0 ∷ []) ∷ (0 ∷ 0 ∷ 0 ∷ []) ∷ []) ∷ ((9 ∷ []) ∷ (9 ∷ []) ∷ (0 ∷ []) ∷ []) ∷ [])
+unfolding residual statement statements_in cases_in arms_in target expression eb.hidden-the_row-Expr-0 sb.hidden-the_row-Stmt-1 sb.hidden-the_row-Stmt-2 sb.hidden-the_row-Arm-3 sb.hidden-the_row-Case-0 denote.Hole.Carrier.hidden
+row_ram_outside = holds _ _ _ _ _ refl refl
+
+-- `par { x = m[0]; y = r[1]; }`: the first words of a RAM and of a ROM, and 0 behind them
+row_memories : Holds (core (ram 2 (6 ∷ []) ∷ rom 3 (7 ∷ 8 ∷ []) ∷ reg 4 0 ∷ reg 4 0 ∷ []) (par (takes 2 (e.Word 0 (const 1 0)) ∷ takes 3 (e.Word 1 (const 2 1)) ∷ []) ∷ [])) no_inputs 1 (0 ∷ 1 ∷ 2 ∷ 3 ∷ [])
+    (((6 ∷ 0 ∷ []) ∷ (6 ∷ 0 ∷ []) ∷ []) ∷ ((7 ∷ 8 ∷ 0 ∷ []) ∷ (7 ∷ 8 ∷ 0 ∷ []) ∷ []) ∷ ((0 ∷ []) ∷ (6 ∷ []) ∷ []) ∷ ((0 ∷ []) ∷ (8 ∷ []) ∷ []) ∷ [])
+unfolding residual statement statements_in cases_in arms_in target expression eb.hidden-the_row-Expr-0 sb.hidden-the_row-Stmt-1 sb.hidden-the_row-Stmt-2 sb.hidden-the_row-Arm-3 sb.hidden-the_row-Case-0 denote.Hole.Carrier.hidden
+row_memories = holds _ _ _ _ _ refl refl
+
+-- `while (1) par { while (m[i] == 3) delay; i = 1; }`: a condition that is evaluated twice in clock 1 is one use
+row_evaluated_again : Holds (core (ram 2 (3 ∷ 0 ∷ []) ∷ reg 1 0 ∷ []) (s.While here (const 1 1) (par ((s.While here (e.Binary Eq (e.Word 0 (e.Reg 1)) (const 4 3)) delay) ∷ s.Assign here (t.Reg 1) (const 1 1) ∷ [])) ∷ [])) no_inputs 3 (1 ∷ [])
+    (((0 ∷ []) ∷ (1 ∷ []) ∷ (1 ∷ []) ∷ (1 ∷ []) ∷ []) ∷ [])
+unfolding residual statement statements_in cases_in arms_in target expression eb.hidden-the_row-Expr-0 sb.hidden-the_row-Stmt-1 sb.hidden-the_row-Stmt-2 sb.hidden-the_row-Arm-3 sb.hidden-the_row-Case-0 denote.Hole.Carrier.hidden
+row_evaluated_again = holds _ _ _ _ _ refl refl
+
+-- an output shows its value of the same clock: `x = x + 1` for ever, with x and an input as outputs
+row_outputs : Shows (core (reg 4 0 ∷ kind.Input 1 false [] ∷ kind.Output 4 false [] (e.Reg 0) ∷ kind.Output 1 false [] (e.Input 1) ∷ []) ((s.While here (const 1 1) (counts 0)) ∷ [])) every_other 3
+    ((0 ∷ 1 ∷ []) ∷ (1 ∷ 0 ∷ []) ∷ (2 ∷ 1 ∷ []) ∷ [])
+unfolding residual statement statements_in cases_in arms_in target expression eb.hidden-the_row-Expr-0 sb.hidden-the_row-Stmt-1 sb.hidden-the_row-Stmt-2 sb.hidden-the_row-Arm-3 sb.hidden-the_row-Case-0 denote.Hole.Carrier.hidden
+row_outputs = shows _ _ _ _ refl refl
