@@ -1,17 +1,14 @@
 -- Parts of programs, for the rows.
-use Rattle.std.proofs.Common.{◌≡◌, ℕ, zero, suc, List, [], ◌∷◌, map, Bool, true, false, Some, None, refl}
+use Rattle.std.proofs.Common.{ℕ, List, [], ◌∷◌, map, Bool, false, None}
 use Rattle.hc_num.specs.Number.{Number}
 use Rattle.hc_tree.specs.declared.place.Place.{Place}
-use Rattle.hc_core.specs.Read.{expression, target, statement, statements_in, cases_in, arms_in}
-use Rattle.hc_core.specs.declared.expr.BinOp.TheVariants.{Add, Lt, Ne, Eq}
+use Rattle.hc_core.specs.declared.expr.BinOp.TheVariants.{Add}
 use Rattle.hc_core.specs.declared.expr.Expr.{Expr}
 use Rattle.hc_core.specs.declared.expr.Expr.TheVariants as e
-use Rattle.hc_core.specs.declared.expr.Expr.TheBlock as eb
 use Rattle.hc_core.specs.declared.stmt.Stmt.{Stmt}
 use Rattle.hc_core.specs.declared.stmt.Stmt.TheVariants as s
 use Rattle.hc_core.specs.declared.stmt.Case.{Case}
 use Rattle.hc_core.specs.declared.stmt.Case.TheVariants as c
-use Rattle.hc_core.specs.declared.stmt.Case.TheBlock as sb
 use Rattle.hc_core.specs.declared.stmt.Arm.{Arm}
 use Rattle.hc_core.specs.declared.stmt.Target.TheVariants as t
 use Rattle.hc_core.specs.declared.object.Kind.{Kind}

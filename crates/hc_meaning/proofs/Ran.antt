@@ -1,14 +1,14 @@
 -- Runs and clocks of a program, computed: what the rows are made of.
 use Rattle.std.proofs.Common.{◌≡◌, ◌<◌, ◌≤◌, ◌^◌, ◌+◌, ℕ, zero, suc, List, [], ◌∷◌, map, Bool, true, false, ◌&&◌, ◌==◌, Some, None, Option, ◌⊎◌, inl, inr, refl, ap, sym, ◌∙◌, arith}
-use Rattle.std.specs.Prelude.{nat_lt, if◌then◌else◌, slice_get, slice_index_or}
+use Rattle.std.specs.Prelude.{nat_lt, slice_get, slice_index_or}
 use Rattle.std.proofs.lemmas.Bool.{eqb-true, ltb-true, cases_lt}
 use Rattle.hc_core.specs.Typed.{kinds_of}
 use Rattle.hc_core.specs.declared.object.Kind.{Kind}
 use Rattle.hc_core.specs.declared.object.Kind.TheVariants as kind
 use Rattle.hc_core.specs.declared.object.Core.{Core}
-use Rattle.hc_meaning.specs.Value.{Instant, World, words, inputs_before, is_input}
+use Rattle.hc_meaning.specs.Value.{Instant, World, words, inputs_before}
 use Rattle.hc_meaning.specs.Clock.{shown_by, outputs}
-use Rattle.hc_meaning.specs.Run.{State, Settled, Clock, Run, AreInputs, world_of, front_of, IsSettled, conflict, state_after, first_state, world_in}
+use Rattle.hc_meaning.specs.Run.{State, Settled, Clock, Run, AreInputs, world_of, front_of, conflict, state_after, first_state, world_in}
 
 -- ---- what the rows say
 

@@ -1,25 +1,16 @@
 -- Worked rows of runs: what objects hold at each edge of clean clocks, and what outputs show.
-use Rattle.std.proofs.Common.{◌≡◌, ℕ, zero, suc, List, [], ◌∷◌, map, Bool, true, false, Some, None, refl}
-use Rattle.hc_num.specs.Number.{Number}
-use Rattle.hc_tree.specs.declared.place.Place.{Place}
+use Rattle.std.proofs.Common.{ℕ, zero, suc, List, [], ◌∷◌, true, false, Some, None, refl}
 use Rattle.hc_core.specs.Read.{expression, target, statement, statements_in, cases_in, arms_in}
 use Rattle.hc_core.specs.declared.expr.BinOp.TheVariants.{Add, Lt, Ne, Eq}
-use Rattle.hc_core.specs.declared.expr.Expr.{Expr}
 use Rattle.hc_core.specs.declared.expr.Expr.TheVariants as e
 use Rattle.hc_core.specs.declared.expr.Expr.TheBlock as eb
 use Rattle.hc_core.specs.declared.stmt.Stmt.{Stmt}
 use Rattle.hc_core.specs.declared.stmt.Stmt.TheVariants as s
-use Rattle.hc_core.specs.declared.stmt.Case.{Case}
-use Rattle.hc_core.specs.declared.stmt.Case.TheVariants as c
 use Rattle.hc_core.specs.declared.stmt.Case.TheBlock as sb
-use Rattle.hc_core.specs.declared.stmt.Arm.{Arm}
 use Rattle.hc_core.specs.declared.stmt.Target.TheVariants as t
-use Rattle.hc_core.specs.declared.object.Kind.{Kind}
 use Rattle.hc_core.specs.declared.object.Kind.TheVariants as kind
-use Rattle.hc_core.specs.declared.object.Object.{Object}
-use Rattle.hc_core.specs.declared.object.Core.{Core}
 use Rattle.hc_meaning.specs.Residual.{residual}
-use Rattle.hc_meaning.proofs.Programs.{here, number, object, core, no_inputs, reg, array, ram, rom, sig, chan, const, sets, takes, counts, delay, par, seq, sends, receives, waits_for, receive_case, send_case, arm_of}
+use Rattle.hc_meaning.proofs.Programs.{here, core, no_inputs, reg, array, ram, rom, sig, chan, const, sets, takes, counts, delay, par, seq, sends, receives, waits_for, receive_case, send_case, arm_of}
 use Rattle.hc_meaning.proofs.Ran.{Holds, holds, Shows, shows}
 
 -- the input 1 in each clock of an even number, and in clock 1 alone

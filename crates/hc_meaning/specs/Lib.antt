@@ -1,6 +1,10 @@
 pub mod Residual
+pub mod Numbers
 pub mod Value
 pub mod Control
 pub mod Clock
 pub mod Twice
 pub mod Run
+pub mod Uses
+pub mod OneInstant
+pub mod Nets

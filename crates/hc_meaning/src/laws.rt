@@ -1,11 +1,42 @@
-ghost use Rattle.std.specs.Prelude.{◌≡◌, List, None};
-ghost use Rattle.hc_meaning.specs.Value.{World};
+ghost use Rattle.std.specs.Prelude.{◌≡◌, ℕ, List, None};
+ghost use Rattle.hc_tree.specs.declared.refusal.Node.{Node};
+ghost use Rattle.hc_core.specs.Typed.{kinds_of};
+ghost use Rattle.hc_core.specs.Sound.{IsSound};
+ghost use Rattle.hc_core.specs.Depends.{IsOrder};
+ghost use Rattle.hc_core.specs.Program.{Statement};
+ghost use Rattle.hc_core.specs.declared.object.Core.{Core};
+ghost use Rattle.hc_meaning.specs.Residual.{residual};
+ghost use Rattle.hc_meaning.specs.Numbers.{numbers, numbered};
+ghost use Rattle.hc_meaning.specs.Value.{World, Instant};
 ghost use Rattle.hc_meaning.specs.Control.{Leaf, Condition};
 ghost use Rattle.hc_meaning.specs.Clock.{IsClean};
 ghost use Rattle.hc_meaning.specs.Twice.{used_twice};
+ghost use Rattle.hc_meaning.specs.Run.{Run, Settled, world_in, conflict};
+ghost use Rattle.hc_meaning.specs.OneInstant.{HasOneInstant, LoopsWait};
+ghost use Rattle.hc_meaning.specs.Nets.{AccessesApart, OffersApart, Wired, Identified};
 
 /// A clock is clean, which is that no object is used twice in it, exactly where there is no least such object.
 pub fn clean_clock()
     ensures clean { (w : World) (front : List Leaf) (conditions : List Condition) → used_twice w front conditions ≡ None → IsClean w front conditions }
     ensures none { (w : World) (front : List Leaf) (conditions : List Condition) → IsClean w front conditions → used_twice w front conditions ≡ None }
+{}
+
+/// The actions, cases and conditions of a statement have the numbers from 0 on, in text order.
+pub fn numbers_in_order()
+    ensures { (s : Statement) → numbers (residual s 0).0 ≡ numbered 0 (residual s 0).1 }
+{}
+
+/// In each state that clean clocks of a sound core reach, exactly one instant agrees with its own front, where no loop may
+/// take no clock and the values of a clock have an order.
+pub fn one_instant()
+    ensures { (core : Core) (ranks : List (Node × ℕ)) → IsSound core → LoopsWait core → IsOrder core ranks → HasOneInstant core }
+{}
+
+/// In a clean clock of such a core, which accesses no RAM or ROM twice in one action or condition and none in a case or an
+/// output, each world that is made of nets is the clock's own.
+pub fn nets_are_the_clock()
+    ensures { (core : Core) (ranks : List (Node × ℕ)) → IsSound core → LoopsWait core → AccessesApart core → OffersApart core → IsOrder core ranks
+        → (trace : ℕ → List ℕ) (n : ℕ) (run : Run core trace n) (inputs : List ℕ) (settled : Settled (kinds_of core.objects) inputs (run.state n))
+        → conflict (world_in settled) (run.state n).rest ≡ None → (q : Instant) (word : ℕ → ℕ → ℕ) → Wired (world_in settled) (run.state n).rest q word
+        → Identified (world_in settled) (run.state n).rest q word }
 {}
