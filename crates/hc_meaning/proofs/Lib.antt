@@ -31,3 +31,4 @@ mod Writes
 mod Nets
 mod Satisfied
 mod TextOrder
+mod Possible

@@ -53,10 +53,10 @@ map_both : (a b : List Access) → map (λ (x : Access). x.0) (a ++ b) ≡ map (
 map_both [] b = refl
 map_both (x ∷ a) b = ap (λ l. x.0 ∷ l) (map_both a b)
 
-abbrev objects : List Access → List ℕ
+abbrev pub objects : List Access → List ℕ
 objects list = map (λ (x : Access). x.0) list
 
-reads_are : (e : Expression) → reads e ≡ objects (accesses e)
+pub reads_are : (e : Expression) → reads e ≡ objects (accesses e)
 reads_are (Constant n) = refl
 reads_are (Register k) = refl
 reads_are (Element k i) = reads_are i
@@ -74,7 +74,7 @@ target_uses_are (ToElement k i) = reads_are i
 target_uses_are (ToWord k i) = ap (λ l. k ∷ l) (reads_are i)
 target_uses_are (ToSignal k) = refl
 
-action_uses_are : (a : Action) → action_uses a ≡ objects (action_accesses a)
+pub action_uses_are : (a : Action) → action_uses a ≡ objects (action_accesses a)
 action_uses_are (Assign t e) = rw (target_uses_are t, reads_are e) (sym (map_both (target_accesses t) (accesses e)))
 action_uses_are Delay = refl
 action_uses_are (Send chan e) = reads_are e

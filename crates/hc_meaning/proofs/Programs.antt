@@ -2,7 +2,7 @@
 use Rattle.std.proofs.Common.{ℕ, List, [], ◌∷◌, map, Bool, false, None}
 use Rattle.hc_num.specs.Number.{Number}
 use Rattle.hc_tree.specs.declared.place.Place.{Place}
-use Rattle.hc_core.specs.declared.expr.BinOp.TheVariants.{Add}
+use Rattle.hc_core.specs.declared.expr.BinOp.TheVariants.{Add, Eq}
 use Rattle.hc_core.specs.declared.expr.Expr.{Expr}
 use Rattle.hc_core.specs.declared.expr.Expr.TheVariants as e
 use Rattle.hc_core.specs.declared.stmt.Stmt.{Stmt}
@@ -91,3 +91,10 @@ send_case channel bits arm = c.Send channel (const 4 bits) (seq arm)
 
 abbrev pub arm_of : List ℕ → Bool → List Stmt → Arm
 arm_of values other body = record { values = map (number 4) values; other = other; body = seq body }
+
+-- whether the first word of the RAM with number 2 is 1, and a statement that asks it
+abbrev pub word_is_one : Expr
+word_is_one = e.Binary Eq (e.Word 2 (const 1 0)) (const 4 1)
+
+abbrev pub tests_word : Stmt
+tests_word = s.If here word_is_one delay s.Skip

@@ -10,7 +10,7 @@ use Rattle.hc_core.specs.declared.stmt.Case.TheBlock as sb
 use Rattle.hc_core.specs.declared.stmt.Target.TheVariants as t
 use Rattle.hc_core.specs.declared.object.Kind.TheVariants as kind
 use Rattle.hc_meaning.specs.Residual.{residual}
-use Rattle.hc_meaning.proofs.Programs.{here, core, no_inputs, reg, array, ram, rom, sig, chan, const, sets, takes, counts, delay, par, seq, sends, receives, waits_for, receive_case, send_case, arm_of}
+use Rattle.hc_meaning.proofs.Programs.{here, core, no_inputs, reg, array, ram, rom, sig, chan, const, sets, takes, counts, delay, par, seq, sends, receives, waits_for, receive_case, send_case, arm_of, tests_word}
 use Rattle.hc_meaning.proofs.Ran.{Holds, holds, Shows, shows}
 
 -- the input 1 in each clock of an even number, and in clock 1 alone
@@ -235,6 +235,18 @@ row_evaluated_again : Holds (core (ram 2 (3 ∷ 0 ∷ []) ∷ reg 1 0 ∷ []) (s
     (((0 ∷ []) ∷ (1 ∷ []) ∷ (1 ∷ []) ∷ (1 ∷ []) ∷ []) ∷ [])
 unfolding residual statement statements_in cases_in arms_in target expression eb.hidden-the_row-Expr-0 sb.hidden-the_row-Stmt-1 sb.hidden-the_row-Stmt-2 sb.hidden-the_row-Arm-3 sb.hidden-the_row-Case-0 denote.Hole.Carrier.hidden
 row_evaluated_again = holds _ _ _ _ _ refl refl
+
+-- `par { if (z == 0) if (m[0] == 1) delay; y = m[1]; }` with z = 1: a condition that isn't evaluated doesn't count
+row_condition_apart : Holds (core (reg 4 0 ∷ reg 4 0 ∷ ram 2 [] ∷ reg 4 1 ∷ chan ∷ array 2 [] ∷ []) (par (s.If here (e.Binary Eq (e.Reg 3) (const 4 0)) tests_word s.Skip ∷ takes 1 (e.Word 2 (const 1 1)) ∷ []) ∷ [])) no_inputs 1 (1 ∷ [])
+    (((0 ∷ []) ∷ (0 ∷ []) ∷ []) ∷ [])
+unfolding residual statement statements_in cases_in arms_in target expression eb.hidden-the_row-Expr-0 sb.hidden-the_row-Stmt-1 sb.hidden-the_row-Stmt-2 sb.hidden-the_row-Arm-3 sb.hidden-the_row-Case-0 denote.Hole.Carrier.hidden
+row_condition_apart = holds _ _ _ _ _ refl refl
+
+-- `par { { delay; if (m[0] == 1) delay; } y = m[1]; }`: nor one behind an action
+row_condition_later : Holds (core (reg 4 0 ∷ reg 4 0 ∷ ram 2 [] ∷ reg 4 1 ∷ chan ∷ array 2 [] ∷ []) (par (seq (delay ∷ tests_word ∷ []) ∷ takes 1 (e.Word 2 (const 1 1)) ∷ []) ∷ [])) no_inputs 2 (1 ∷ [])
+    (((0 ∷ []) ∷ (0 ∷ []) ∷ (0 ∷ []) ∷ []) ∷ [])
+unfolding residual statement statements_in cases_in arms_in target expression eb.hidden-the_row-Expr-0 sb.hidden-the_row-Stmt-1 sb.hidden-the_row-Stmt-2 sb.hidden-the_row-Arm-3 sb.hidden-the_row-Case-0 denote.Hole.Carrier.hidden
+row_condition_later = holds _ _ _ _ _ refl refl
 
 -- an output shows its value of the same clock: `x = x + 1` for ever, with x and an input as outputs
 row_outputs : Shows (core (reg 4 0 ∷ kind.Input 1 false [] ∷ kind.Output 4 false [] (e.Reg 0) ∷ kind.Output 1 false [] (e.Input 1) ∷ []) ((s.While here (const 1 1) (counts 0)) ∷ [])) every_other 3

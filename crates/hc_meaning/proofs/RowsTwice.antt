@@ -1,5 +1,5 @@
 -- Worked rows of clocks that aren't clean: the least object that is used twice.
-use Rattle.std.proofs.Common.{[], ◌∷◌, Some, refl}
+use Rattle.std.proofs.Common.{[], ◌∷◌, true, false, Some, refl}
 use Rattle.hc_core.specs.Read.{expression, target, statement, statements_in, cases_in, arms_in}
 use Rattle.hc_core.specs.declared.expr.BinOp.TheVariants.{Eq}
 use Rattle.hc_core.specs.declared.expr.Expr.TheVariants as e
@@ -8,7 +8,7 @@ use Rattle.hc_core.specs.declared.stmt.Stmt.TheVariants as s
 use Rattle.hc_core.specs.declared.stmt.Case.TheBlock as sb
 use Rattle.hc_core.specs.declared.stmt.Target.TheVariants as t
 use Rattle.hc_meaning.specs.Residual.{residual}
-use Rattle.hc_meaning.proofs.Programs.{here, core, no_inputs, reg, array, ram, rom, sig, chan, const, sets, takes, delay, par, sends, receives, waits_for, receive_case, send_case}
+use Rattle.hc_meaning.proofs.Programs.{here, core, no_inputs, reg, array, ram, rom, sig, chan, const, sets, takes, delay, par, seq, sends, receives, waits_for, receive_case, send_case, arm_of, word_is_one, tests_word}
 use Rattle.hc_meaning.proofs.Ran.{Conflicts, conflicts, Shown, is_shown}
 
 -- `par { x = 1; x = 2; }`
@@ -90,6 +90,79 @@ case_behind_the_first = conflicts _ _ _ _ refl refl refl
 least : Conflicts (core (sig 0 ∷ reg 4 0 ∷ reg 4 0 ∷ chan ∷ []) (par (sends 3 1 ∷ sends 3 2 ∷ sets 2 1 ∷ sets 2 2 ∷ sets 1 1 ∷ sets 1 2 ∷ []) ∷ [])) no_inputs 0 1
 unfolding residual statement statements_in cases_in arms_in target expression eb.hidden-the_row-Expr-0 sb.hidden-the_row-Stmt-1 sb.hidden-the_row-Stmt-2 sb.hidden-the_row-Arm-3 sb.hidden-the_row-Case-0 denote.Hole.Carrier.hidden
 least = conflicts _ _ _ _ refl refl refl
+
+-- `par { while (m[0] == 1) delay; y = m[1]; }`: the condition of a loop counts
+word_in_while : Conflicts (core (reg 4 0 ∷ reg 4 0 ∷ ram 2 [] ∷ reg 4 1 ∷ chan ∷ array 2 [] ∷ []) (par (s.While here word_is_one delay ∷ takes 1 (e.Word 2 (const 1 1)) ∷ []) ∷ [])) no_inputs 0 2
+unfolding residual statement statements_in cases_in arms_in target expression eb.hidden-the_row-Expr-0 sb.hidden-the_row-Stmt-1 sb.hidden-the_row-Stmt-2 sb.hidden-the_row-Arm-3 sb.hidden-the_row-Case-0 denote.Hole.Carrier.hidden
+word_in_while = conflicts _ _ _ _ refl refl refl
+
+-- so does a condition in the body of a loop,
+word_in_a_loop : Conflicts (core (reg 4 0 ∷ reg 4 0 ∷ ram 2 [] ∷ reg 4 1 ∷ chan ∷ array 2 [] ∷ []) (par (s.While here (const 1 1) (seq (tests_word ∷ delay ∷ [])) ∷ takes 1 (e.Word 2 (const 1 1)) ∷ []) ∷ [])) no_inputs 0 2
+unfolding residual statement statements_in cases_in arms_in target expression eb.hidden-the_row-Expr-0 sb.hidden-the_row-Stmt-1 sb.hidden-the_row-Stmt-2 sb.hidden-the_row-Arm-3 sb.hidden-the_row-Case-0 denote.Hole.Carrier.hidden
+word_in_a_loop = conflicts _ _ _ _ refl refl refl
+
+-- in the body of `do`,
+word_in_do : Conflicts (core (reg 4 0 ∷ reg 4 0 ∷ ram 2 [] ∷ reg 4 1 ∷ chan ∷ array 2 [] ∷ []) (par (s.DoWhile here (seq (tests_word ∷ delay ∷ [])) (const 1 0) ∷ takes 1 (e.Word 2 (const 1 1)) ∷ []) ∷ [])) no_inputs 0 2
+unfolding residual statement statements_in cases_in arms_in target expression eb.hidden-the_row-Expr-0 sb.hidden-the_row-Stmt-1 sb.hidden-the_row-Stmt-2 sb.hidden-the_row-Arm-3 sb.hidden-the_row-Case-0 denote.Hole.Carrier.hidden
+word_in_do = conflicts _ _ _ _ refl refl refl
+
+-- in the selector of a `switch`,
+word_in_selector : Conflicts (core (reg 4 0 ∷ reg 4 0 ∷ ram 2 [] ∷ reg 4 1 ∷ chan ∷ array 2 [] ∷ []) (par (s.Switch here (e.Word 2 (const 1 0)) (arm_of (1 ∷ []) false (delay ∷ []) ∷ []) ∷ takes 1 (e.Word 2 (const 1 1)) ∷ []) ∷ [])) no_inputs 0 2
+unfolding residual statement statements_in cases_in arms_in target expression eb.hidden-the_row-Expr-0 sb.hidden-the_row-Stmt-1 sb.hidden-the_row-Stmt-2 sb.hidden-the_row-Arm-3 sb.hidden-the_row-Case-0 denote.Hole.Carrier.hidden
+word_in_selector = conflicts _ _ _ _ refl refl refl
+
+-- in an arm,
+word_in_an_arm : Conflicts (core (reg 4 0 ∷ reg 4 0 ∷ ram 2 [] ∷ reg 4 1 ∷ chan ∷ array 2 [] ∷ []) (par (s.Switch here (e.Reg 3) (arm_of (5 ∷ []) false [] ∷ arm_of (1 ∷ []) false (tests_word ∷ []) ∷ []) ∷ takes 1 (e.Word 2 (const 1 1)) ∷ []) ∷ [])) no_inputs 0 2
+unfolding residual statement statements_in cases_in arms_in target expression eb.hidden-the_row-Expr-0 sb.hidden-the_row-Stmt-1 sb.hidden-the_row-Stmt-2 sb.hidden-the_row-Arm-3 sb.hidden-the_row-Case-0 denote.Hole.Carrier.hidden
+word_in_an_arm = conflicts _ _ _ _ refl refl refl
+
+-- in the arm with the label `default`,
+word_in_default_arm : Conflicts (core (reg 4 0 ∷ reg 4 0 ∷ ram 2 [] ∷ reg 4 1 ∷ chan ∷ array 2 [] ∷ []) (par (s.Switch here (e.Reg 3) (arm_of (5 ∷ []) false [] ∷ arm_of [] true (tests_word ∷ []) ∷ []) ∷ takes 1 (e.Word 2 (const 1 1)) ∷ []) ∷ [])) no_inputs 0 2
+unfolding residual statement statements_in cases_in arms_in target expression eb.hidden-the_row-Expr-0 sb.hidden-the_row-Stmt-1 sb.hidden-the_row-Stmt-2 sb.hidden-the_row-Arm-3 sb.hidden-the_row-Case-0 denote.Hole.Carrier.hidden
+word_in_default_arm = conflicts _ _ _ _ refl refl refl
+
+-- in the default of a `prialt`,
+word_in_default : Conflicts (core (reg 4 0 ∷ reg 4 0 ∷ ram 2 [] ∷ reg 4 1 ∷ chan ∷ array 2 [] ∷ []) (par (s.Prialt here (receive_case 4 0 [] ∷ []) (Some tests_word) ∷ takes 1 (e.Word 2 (const 1 1)) ∷ []) ∷ [])) no_inputs 0 2
+unfolding residual statement statements_in cases_in arms_in target expression eb.hidden-the_row-Expr-0 sb.hidden-the_row-Stmt-1 sb.hidden-the_row-Stmt-2 sb.hidden-the_row-Arm-3 sb.hidden-the_row-Case-0 denote.Hole.Carrier.hidden
+word_in_default = conflicts _ _ _ _ refl refl refl
+
+-- in a branch of an `if` that holds,
+word_in_a_branch : Conflicts (core (reg 4 0 ∷ reg 4 0 ∷ ram 2 [] ∷ reg 4 1 ∷ chan ∷ array 2 [] ∷ []) (par (s.If here (e.Reg 3) tests_word s.Skip ∷ takes 1 (e.Word 2 (const 1 1)) ∷ []) ∷ [])) no_inputs 0 2
+unfolding residual statement statements_in cases_in arms_in target expression eb.hidden-the_row-Expr-0 sb.hidden-the_row-Stmt-1 sb.hidden-the_row-Stmt-2 sb.hidden-the_row-Arm-3 sb.hidden-the_row-Case-0 denote.Hole.Carrier.hidden
+word_in_a_branch = conflicts _ _ _ _ refl refl refl
+
+-- in one of an `if` that doesn't,
+word_in_else : Conflicts (core (reg 4 0 ∷ reg 4 0 ∷ ram 2 [] ∷ reg 4 1 ∷ chan ∷ array 2 [] ∷ []) (par (s.If here (e.Reg 0) s.Skip tests_word ∷ takes 1 (e.Word 2 (const 1 1)) ∷ []) ∷ [])) no_inputs 0 2
+unfolding residual statement statements_in cases_in arms_in target expression eb.hidden-the_row-Expr-0 sb.hidden-the_row-Stmt-1 sb.hidden-the_row-Stmt-2 sb.hidden-the_row-Arm-3 sb.hidden-the_row-Case-0 denote.Hole.Carrier.hidden
+word_in_else = conflicts _ _ _ _ refl refl refl
+
+-- behind a statement that is passed,
+word_behind : Conflicts (core (reg 4 0 ∷ reg 4 0 ∷ ram 2 [] ∷ reg 4 1 ∷ chan ∷ array 2 [] ∷ []) (par (seq ((s.If here (e.Reg 0) delay s.Skip) ∷ tests_word ∷ []) ∷ takes 1 (e.Word 2 (const 1 1)) ∷ []) ∷ [])) no_inputs 0 2
+unfolding residual statement statements_in cases_in arms_in target expression eb.hidden-the_row-Expr-0 sb.hidden-the_row-Stmt-1 sb.hidden-the_row-Stmt-2 sb.hidden-the_row-Arm-3 sb.hidden-the_row-Case-0 denote.Hole.Carrier.hidden
+word_behind = conflicts _ _ _ _ refl refl refl
+
+-- and in a `par`
+word_in_par : Conflicts (core (reg 4 0 ∷ reg 4 0 ∷ ram 2 [] ∷ reg 4 1 ∷ chan ∷ array 2 [] ∷ []) (par (par (tests_word ∷ []) ∷ takes 1 (e.Word 2 (const 1 1)) ∷ []) ∷ [])) no_inputs 0 2
+unfolding residual statement statements_in cases_in arms_in target expression eb.hidden-the_row-Expr-0 sb.hidden-the_row-Stmt-1 sb.hidden-the_row-Stmt-2 sb.hidden-the_row-Arm-3 sb.hidden-the_row-Case-0 denote.Hole.Carrier.hidden
+word_in_par = conflicts _ _ _ _ refl refl refl
+
+-- an index of an array that is read or written accesses it,
+word_in_index : Conflicts (core (reg 4 0 ∷ reg 4 0 ∷ ram 2 [] ∷ reg 4 1 ∷ chan ∷ array 2 [] ∷ []) (par (takes 0 (e.Element 5 (e.Slice (e.Word 2 (const 1 0)) 0 0)) ∷ takes 1 (e.Word 2 (const 1 1)) ∷ []) ∷ [])) no_inputs 0 2
+unfolding residual statement statements_in cases_in arms_in target expression eb.hidden-the_row-Expr-0 sb.hidden-the_row-Stmt-1 sb.hidden-the_row-Stmt-2 sb.hidden-the_row-Arm-3 sb.hidden-the_row-Case-0 denote.Hole.Carrier.hidden
+word_in_index = conflicts _ _ _ _ refl refl refl
+
+word_in_target_index : Conflicts (core (reg 4 0 ∷ reg 4 0 ∷ ram 2 [] ∷ reg 4 1 ∷ chan ∷ array 2 [] ∷ []) (par (s.Assign here (t.Element 5 (e.Slice (e.Word 2 (const 1 0)) 0 0)) (const 4 1) ∷ takes 1 (e.Word 2 (const 1 1)) ∷ []) ∷ [])) no_inputs 0 2
+unfolding residual statement statements_in cases_in arms_in target expression eb.hidden-the_row-Expr-0 sb.hidden-the_row-Stmt-1 sb.hidden-the_row-Stmt-2 sb.hidden-the_row-Arm-3 sb.hidden-the_row-Case-0 denote.Hole.Carrier.hidden
+word_in_target_index = conflicts _ _ _ _ refl refl refl
+
+-- a receive that waits, and a send
+word_waiting_to_be_received : Conflicts (core (reg 4 0 ∷ reg 4 0 ∷ ram 2 [] ∷ reg 4 1 ∷ chan ∷ array 2 [] ∷ []) (par (s.Recv here 4 (t.Word 2 (const 1 0)) ∷ takes 1 (e.Word 2 (const 1 1)) ∷ []) ∷ [])) no_inputs 0 2
+unfolding residual statement statements_in cases_in arms_in target expression eb.hidden-the_row-Expr-0 sb.hidden-the_row-Stmt-1 sb.hidden-the_row-Stmt-2 sb.hidden-the_row-Arm-3 sb.hidden-the_row-Case-0 denote.Hole.Carrier.hidden
+word_waiting_to_be_received = conflicts _ _ _ _ refl refl refl
+
+word_waiting_to_be_sent : Conflicts (core (reg 4 0 ∷ reg 4 0 ∷ ram 2 [] ∷ reg 4 1 ∷ chan ∷ array 2 [] ∷ []) (par (s.Send here 4 (e.Word 2 (const 1 0)) ∷ takes 1 (e.Word 2 (const 1 1)) ∷ []) ∷ [])) no_inputs 0 2
+unfolding residual statement statements_in cases_in arms_in target expression eb.hidden-the_row-Expr-0 sb.hidden-the_row-Stmt-1 sb.hidden-the_row-Stmt-2 sb.hidden-the_row-Arm-3 sb.hidden-the_row-Case-0 denote.Hole.Carrier.hidden
+word_waiting_to_be_sent = conflicts _ _ _ _ refl refl refl
 
 -- two numbers for a signal: it has their bitwise or
 or_of_two : Shown (core (reg 4 0 ∷ sig 8 ∷ []) (par ((s.Assign here (t.Signal 1) (const 4 1)) ∷ (s.Assign here (t.Signal 1) (const 4 3)) ∷ (s.Assign here (t.Signal 1) (const 4 4)) ∷ []) ∷ [])) no_inputs (0 ∷ 7 ∷ [])

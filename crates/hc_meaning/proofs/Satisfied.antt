@@ -93,7 +93,7 @@ module _ (v : World) (r : Residual) (one : OneUse v r) where
   shown_same = rw (each_all (signal_bits v (front (resolved v r))) (signal_bits w (front (resolved v r))) v.kinds 0
       (λ i kind. bits_same v w (front (resolved v r)) (front (resolved v r)) i (all_assigned i (front (resolved v r)) (leaves_used v r)) kind)) refl
 
-  words_same : (k : ℕ) → words_used k w r ≡ words_used k v r
+  pub words_same : (k : ℕ) → words_used k w r ≡ words_used k v r
   words_same k =
       ap (λ (x : Residual). flat_map (leaf_words k w) (front x) ++ flat_map (condition_words k w) (evaluated w r)) (sym control.0)
       ∙ ap (λ (c : List Condition). flat_map (leaf_words k w) (front (resolved v r)) ++ flat_map (condition_words k w) c) (sym control.1)

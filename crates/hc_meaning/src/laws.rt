@@ -33,10 +33,13 @@ pub fn one_instant()
 {}
 
 /// In a clean clock of such a core, which accesses no RAM or ROM twice in one action or condition and none in a case or an
-/// output, each world that is made of nets is the clock's own.
+/// output, each world that is made of nets is the clock's own; and there is one.
 pub fn nets_are_the_clock()
-    ensures { (core : Core) (ranks : List (Node × ℕ)) → IsSound core → LoopsWait core → AccessesApart core → OffersApart core → IsOrder core ranks
+    ensures identified { (core : Core) (ranks : List (Node × ℕ)) → IsSound core → LoopsWait core → AccessesApart core → OffersApart core → IsOrder core ranks
         → (trace : ℕ → List ℕ) (n : ℕ) (run : Run core trace n) (inputs : List ℕ) (settled : Settled (kinds_of core.objects) inputs (run.state n))
         → conflict (world_in settled) (run.state n).rest ≡ None → (q : Instant) (word : ℕ → ℕ → ℕ) → Wired (world_in settled) (run.state n).rest q word
         → Identified (world_in settled) (run.state n).rest q word }
+    ensures possible { (core : Core) → AccessesApart core → (trace : ℕ → List ℕ) (n : ℕ) (run : Run core trace n) (inputs : List ℕ)
+        → (settled : Settled (kinds_of core.objects) inputs (run.state n)) → conflict (world_in settled) (run.state n).rest ≡ None
+        → (word : ℕ → ℕ → ℕ) × Wired (world_in settled) (run.state n).rest settled.instant word }
 {}
