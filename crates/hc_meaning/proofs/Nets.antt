@@ -19,7 +19,7 @@ use Rattle.hc_meaning.proofs.Numbers.{LeafIs, resolved_marks, front_marks}
 use Rattle.hc_meaning.proofs.Writes.{LeafApart, identified_writes}
 use Rattle.hc_meaning.proofs.Order.{rank_in, falls_of}
 use Rattle.hc_meaning.proofs.There.{there}
-use Rattle.hc_meaning.proofs.Law.{main_of, main_waits, reached, reached_waits, core_needs}
+use Rattle.hc_meaning.proofs.Law.{Reached, main_of, main_waits, reached, reached_waits, core_needs}
 use Rattle.hc_meaning.proofs.Once.{used_once, reached_marks}
 use Rattle.hc_meaning.proofs.AccessOnce.{access_once}
 use Rattle.hc_meaning.proofs.OffersApart.{read_nothing, outputs_same}
@@ -36,6 +36,13 @@ leaves_apart (chooses_from n cases ∷ fr) h = (h.0, leaves_apart fr h.1)
 all_reach : (list big : List (ℕ × Mark)) → ((x : ℕ × Mark) → Member x big → reaches_no_word x.1) → Every (λ x. Member x big) list → Every (λ (x : ℕ × Mark). reaches_no_word x.1) list
 all_reach [] big f h = tt
 all_reach (x ∷ list) big f h = (f x h.0, all_reach list big f h.1)
+
+-- no case of the front accesses a RAM or ROM
+pub front_apart : (core : Core) → OffersApart core → (r : Residual) → Reached (main_of core) r → (v : World) → Every LeafApart (front (resolved v r))
+front_apart core offers r h v =
+    let none = all_reach (marks r) (marks (main_of core)) (read_nothing core offers) (reached_marks (main_of core) r h) in
+    let Q = λ (x : ℕ × Mark). reaches_no_word x.1 in
+    leaves_apart (front (resolved v r)) (front_marks Q (resolved v r) (resolved_marks Q v r none))
 
 -- where nothing is accessed, all that is accessed is the clock's
 unread : (v : World) (r : Residual) (e : Expression) → accesses e ≡ [] → IsUsed v r e
@@ -65,9 +72,7 @@ nets_are core ranks sound loops apart offers o trace n run inputs settled clean 
     let used = (clean_of v (front_of v s.rest) (evaluated v s.rest) clean).accessed in
     let i : Found v s.rest q word = identified v s.rest q word waits settled.agrees (used_once core s.rest v h (access_once core apart) used) (ported v s.rest q word wired) (needs_of core)
         (λ P m g. core_needs core P m s.rest h g) (rank_in ranks) (falls_of core ranks (there core sound) o) in
-    let none = all_reach (marks s.rest) (marks (main_of core)) (read_nothing core offers) (reached_marks (main_of core) s.rest h) in
-    let Q = λ (x : ℕ × Mark). reaches_no_word x.1 in
-    let writes = identified_writes v s.rest q word i (leaves_apart (front (resolved v s.rest)) (front_marks Q (resolved v s.rest) (resolved_marks Q v s.rest none))) in
+    let writes = identified_writes v s.rest q word i (front_apart core offers s.rest h v) in
     record {
       instant = i.instant;
       control = i.control;

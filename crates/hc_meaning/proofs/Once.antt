@@ -68,7 +68,7 @@ reads_are (Binary op a b) = rw (reads_are a, reads_are b) (sym (map_both (access
 reads_are (Slice a x y) = reads_are a
 reads_are (Choice c a b) = rw (reads_are c, reads_are a, reads_are b) (ap (λ l. l ++ objects (accesses b)) (sym (map_both (accesses c) (accesses a))) ∙ sym (map_both (accesses c ++ accesses a) (accesses b)))
 
-target_uses_are : (t : Target) → target_uses t ≡ objects (target_accesses t)
+pub target_uses_are : (t : Target) → target_uses t ≡ objects (target_accesses t)
 target_uses_are (ToRegister k) = refl
 target_uses_are (ToElement k i) = reads_are i
 target_uses_are (ToWord k i) = ap (λ l. k ∷ l) (reads_are i)

@@ -6,16 +6,20 @@ use Rattle.std.specs.List.{list_any}
 use Rattle.hc_core.specs.Depends.{Access, accesses}
 use Rattle.hc_core.specs.Typed.{kinds_of}
 use Rattle.hc_core.specs.declared.object.Core.{Core}
-use Rattle.hc_meaning.specs.Residual.{Residual}
+use Rattle.hc_meaning.specs.Residual.{Residual, Sends, Receives, Cases, no_case, case_of}
 use Rattle.hc_meaning.specs.Value.{World}
 use Rattle.hc_meaning.specs.Control.{resolved, evaluated, front, Condition, Leaf, does, chooses_from}
-use Rattle.hc_meaning.specs.Clock.{reads, leaf_uses, leaf_number, user, users}
+use Rattle.hc_meaning.specs.Clock.{reads, case_uses, leaf_uses, leaf_number, user, users}
 use Rattle.hc_meaning.specs.Run.{Run, Settled, world_in, conflict, front_of, IsSettled}
 use Rattle.hc_meaning.specs.Uses.{action_accesses, indexes, access_at, leaf_words, condition_words, words_used}
-use Rattle.hc_meaning.specs.Nets.{Member, AccessesApart, but_for, PortUse, Wired}
+use Rattle.hc_meaning.specs.Nets.{Member, AccessesApart, OffersApart, but_for, PortUse, Wired}
 use Rattle.hc_meaning.proofs.Identify.{AllAre, OneUse, in_left, in_right, in_either, is_one}
 use Rattle.hc_meaning.proofs.Law.{reached}
-use Rattle.hc_meaning.proofs.Once.{objects, reads_are, action_uses_are, flat_in, flat_of, used_once}
+use Rattle.hc_meaning.proofs.Once.{objects, reads_are, target_uses_are, action_uses_are, every_member, flat_in, flat_of, used_once}
+use Rattle.hc_meaning.proofs.Every.{Every}
+use Rattle.hc_meaning.proofs.Marks.{Mark, case_offers, reaches_no_word}
+use Rattle.hc_meaning.proofs.Writes.{LeafApart}
+use Rattle.hc_meaning.proofs.Nets.{front_apart}
 use Rattle.hc_meaning.proofs.AccessOnce.{access_once}
 use Rattle.hc_meaning.proofs.Satisfied.{shows, satisfied, words_same}
 use Rattle.hc_meaning.proofs.Twice.{clean_of}
@@ -40,22 +44,28 @@ some_access k n m v (a ∷ list) h = by (a.0 == k) h (some_access k n m v list)
     by true g next = (access_at n v a.1, inl refl, first g)
     by false g next = next g
 
-leaf_access : (k m : ℕ) (v : World) (l : Leaf) → Member m (user k (leaf_number l) (leaf_uses l)) → Accessed m (leaf_words k v l)
-leaf_access k m v (does n a) h = some_access k n m v (action_accesses a) (subst (λ l. Member m (user k n l)) (action_uses_are a) h)
-leaf_access k m v (chooses_from n cases) h = absurd h
+-- a `prialt` whose cases access nothing is no user
+no_case_uses : (cases : Cases) → Every (λ (x : ℕ × Mark). reaches_no_word x.1) (case_offers cases) → case_uses cases ≡ []
+no_case_uses no_case h = refl
+no_case_uses (case_of n (Sends chan e) body rest) h = rw (reads_are e, h.0) (no_case_uses rest h.1)
+no_case_uses (case_of n (Receives chan t) body rest) h = rw (target_uses_are t, h.0) (no_case_uses rest h.1)
+
+leaf_access : (k m : ℕ) (v : World) (l : Leaf) → LeafApart l → Member m (user k (leaf_number l) (leaf_uses l)) → Accessed m (leaf_words k v l)
+leaf_access k m v (does n a) apart h = some_access k n m v (action_accesses a) (subst (λ l. Member m (user k n l)) (action_uses_are a) h)
+leaf_access k m v (chooses_from n cases) apart h = absurd (subst (λ l. Member m (user k n l)) (no_case_uses cases apart) h)
 
 condition_access : (k m : ℕ) (v : World) (c : Condition) → Member m (user k c.number (reads c.value)) → Accessed m (condition_words k v c)
 condition_access k m v c h = some_access k c.number m v (accesses c.value) (subst (λ l. Member m (user k c.number l)) (reads_are c.value) h)
 
-user_accesses : (k m : ℕ) (w : World) (r : Residual) → Member m (users k (front (resolved w r)) (evaluated w r)) → Accessed m (words_used k w r)
-user_accesses k m w r h =
+user_accesses : (k m : ℕ) (w : World) (r : Residual) → Every LeafApart (front (resolved w r)) → Member m (users k (front (resolved w r)) (evaluated w r)) → Accessed m (words_used k w r)
+user_accesses k m w r apart h =
     by (in_either m (flat_map (λ l. user k (leaf_number l) (leaf_uses l)) (front (resolved w r))) (flat_map (λ c. user k c.number (reads c.value)) (evaluated w r)) h)
   where
     by : Member m (flat_map (λ l. user k (leaf_number l) (leaf_uses l)) (front (resolved w r))) ⊎ Member m (flat_map (λ c. user k c.number (reads c.value)) (evaluated w r))
         → Accessed m (words_used k w r)
     by (inl g) =
         let a = flat_of (λ l. user k (leaf_number l) (leaf_uses l)) (front (resolved w r)) m g in
-        let x = leaf_access k m w a.0 a.2 in
+        let x = leaf_access k m w a.0 (every_member LeafApart (front (resolved w r)) a.0 apart a.1) a.2 in
         (x.0, in_left x.0 (flat_map (leaf_words k w) (front (resolved w r))) (flat_map (condition_words k w) (evaluated w r)) (flat_in (leaf_words k w) (front (resolved w r)) a.0 x.0 a.1 x.1), x.2)
     by (inr g) =
         let a = flat_of (λ c. user k c.number (reads c.value)) (evaluated w r) m g in
@@ -85,7 +95,7 @@ has_listed (y ∷ rest) u x all m =
     let e = is_one u x (y ∷ rest) all m in
     (record { number = y.0; enabled = true; index = y.1 }, inl refl, ap (λ (z : ℕ × ℕ). z.0) (all.0 ∙ sym e), refl)
 
-module _ (v : World) (r : Residual) (one : OneUse v r) where
+module _ (v : World) (r : Residual) (one : OneUse v r) (apart : Every LeafApart (front (resolved (but_for v v.instant (shows v r one)) r))) where
   -- the clock's own instant, with the word that each port shows
   abbrev w : World
   w = but_for v v.instant (shows v r one)
@@ -102,15 +112,16 @@ module _ (v : World) (r : Residual) (one : OneUse v r) where
     where
       enabled : (k n : ℕ) → Member n (users k (front_of w r) (evaluated w r)) → (a : PortUse) × Member a (listed (words_used k v r)) × (a.number ≡ n) × (a.enabled ≡ true)
       enabled k n h =
-          let x = user_accesses k n w r h in
+          let x = user_accesses k n w r apart h in
           let a = has_listed (words_used k v r) (one k).0 x.0 (one k).1 (subst (Member x.0) (words_same v r one k) x.1) in
           (a.0, a.1, a.2 ∙ x.2, a.3)
 
-pub is_met : (core : Core) → AccessesApart core → (trace : ℕ → List ℕ) (n : ℕ) (run : Run core trace n) (inputs : List ℕ) (settled : Settled (kinds_of core.objects) inputs (run.state n))
+pub is_met : (core : Core) → AccessesApart core → OffersApart core → (trace : ℕ → List ℕ) (n : ℕ) (run : Run core trace n) (inputs : List ℕ) (settled : Settled (kinds_of core.objects) inputs (run.state n))
     → conflict (world_in settled) (run.state n).rest ≡ None → (word : ℕ → ℕ → ℕ) × Wired (world_in settled) (run.state n).rest settled.instant word
-is_met core apart trace n run inputs settled clean =
+is_met core apart offers trace n run inputs settled clean =
     let s = run.state n in
     let v = world_in settled in
     let used = (clean_of v (front_of v s.rest) (evaluated v s.rest) clean).accessed in
-    let one = used_once core s.rest v (reached core trace n run n (omega arith)) (access_once core apart) used in
-    (shows v s.rest one, wired v s.rest one settled.agrees)
+    let h = reached core trace n run n (omega arith) in
+    let one = used_once core s.rest v h (access_once core apart) used in
+    (shows v s.rest one, wired v s.rest one (front_apart core offers s.rest h (but_for v v.instant (shows v s.rest one))) settled.agrees)

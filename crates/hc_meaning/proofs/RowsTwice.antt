@@ -5,6 +5,7 @@ use Rattle.hc_core.specs.declared.expr.BinOp.TheVariants.{Eq}
 use Rattle.hc_core.specs.declared.expr.Expr.TheVariants as e
 use Rattle.hc_core.specs.declared.expr.Expr.TheBlock as eb
 use Rattle.hc_core.specs.declared.stmt.Stmt.TheVariants as s
+use Rattle.hc_core.specs.declared.stmt.Case.TheVariants as c
 use Rattle.hc_core.specs.declared.stmt.Case.TheBlock as sb
 use Rattle.hc_core.specs.declared.stmt.Target.TheVariants as t
 use Rattle.hc_meaning.specs.Residual.{residual}
@@ -163,6 +164,11 @@ word_waiting_to_be_received = conflicts _ _ _ _ refl refl refl
 word_waiting_to_be_sent : Conflicts (core (reg 4 0 ∷ reg 4 0 ∷ ram 2 [] ∷ reg 4 1 ∷ chan ∷ array 2 [] ∷ []) (par (s.Send here 4 (e.Word 2 (const 1 0)) ∷ takes 1 (e.Word 2 (const 1 1)) ∷ []) ∷ [])) no_inputs 0 2
 unfolding residual statement statements_in cases_in arms_in target expression eb.hidden-the_row-Expr-0 sb.hidden-the_row-Stmt-1 sb.hidden-the_row-Stmt-2 sb.hidden-the_row-Arm-3 sb.hidden-the_row-Case-0 denote.Hole.Carrier.hidden
 word_waiting_to_be_sent = conflicts _ _ _ _ refl refl refl
+
+-- `par { prialt { case c ! m[0]: break; } y = m[1]; }`: so does a case, which the rules refuse
+word_in_a_case : Conflicts (core (reg 4 0 ∷ reg 4 0 ∷ ram 2 [] ∷ reg 4 1 ∷ chan ∷ array 2 [] ∷ []) (par (waits_for (c.Send 4 (e.Word 2 (const 1 0)) (seq [])) ∷ takes 1 (e.Word 2 (const 1 1)) ∷ []) ∷ [])) no_inputs 0 2
+unfolding residual statement statements_in cases_in arms_in target expression eb.hidden-the_row-Expr-0 sb.hidden-the_row-Stmt-1 sb.hidden-the_row-Stmt-2 sb.hidden-the_row-Arm-3 sb.hidden-the_row-Case-0 denote.Hole.Carrier.hidden
+word_in_a_case = conflicts _ _ _ _ refl refl refl
 
 -- two numbers for a signal: it has their bitwise or
 or_of_two : Shown (core (reg 4 0 ∷ sig 8 ∷ []) (par ((s.Assign here (t.Signal 1) (const 4 1)) ∷ (s.Assign here (t.Signal 1) (const 4 3)) ∷ (s.Assign here (t.Signal 1) (const 4 4)) ∷ []) ∷ [])) no_inputs (0 ∷ 7 ∷ [])

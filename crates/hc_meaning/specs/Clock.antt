@@ -203,16 +203,21 @@ target_uses (ToElement k i) = reads i
 target_uses (ToWord k i) = k ∷ reads i
 target_uses (ToSignal k) = []
 
--- the RAMs and ROMs that an action accesses; the cases of a `prialt` access none
+-- the RAMs and ROMs that an action accesses, and those that the cases of a `prialt` access, without their arms
 abbrev pub action_uses : Action → List ℕ
 action_uses (Assign t e) = target_uses t ++ reads e
 action_uses Delay = []
 action_uses (Send chan e) = reads e
 action_uses (Receive chan t) = target_uses t
 
+abbrev pub case_uses : Cases → List ℕ
+case_uses no_case = []
+case_uses (case_of n (Sends chan e) body rest) = reads e ++ case_uses rest
+case_uses (case_of n (Receives chan t) body rest) = target_uses t ++ case_uses rest
+
 abbrev pub leaf_uses : Leaf → List ℕ
 leaf_uses (does n a) = action_uses a
-leaf_uses (chooses_from n cases) = []
+leaf_uses (chooses_from n cases) = case_uses cases
 
 -- the number of an action
 abbrev pub leaf_number : Leaf → ℕ

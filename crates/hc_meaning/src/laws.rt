@@ -39,7 +39,7 @@ pub fn nets_are_the_clock()
         → (trace : ℕ → List ℕ) (n : ℕ) (run : Run core trace n) (inputs : List ℕ) (settled : Settled (kinds_of core.objects) inputs (run.state n))
         → conflict (world_in settled) (run.state n).rest ≡ None → (q : Instant) (word : ℕ → ℕ → ℕ) → Wired (world_in settled) (run.state n).rest q word
         → Identified (world_in settled) (run.state n).rest q word }
-    ensures possible { (core : Core) → AccessesApart core → (trace : ℕ → List ℕ) (n : ℕ) (run : Run core trace n) (inputs : List ℕ)
+    ensures possible { (core : Core) → AccessesApart core → OffersApart core → (trace : ℕ → List ℕ) (n : ℕ) (run : Run core trace n) (inputs : List ℕ)
         → (settled : Settled (kinds_of core.objects) inputs (run.state n)) → conflict (world_in settled) (run.state n).rest ≡ None
         → (word : ℕ → ℕ → ℕ) × Wired (world_in settled) (run.state n).rest settled.instant word }
 {}
