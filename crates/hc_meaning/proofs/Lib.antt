@@ -32,3 +32,4 @@ mod Nets
 mod Satisfied
 mod TextOrder
 mod Possible
+mod OneRun

@@ -71,7 +71,7 @@ nets_are core ranks sound loops apart offers o trace n run inputs settled clean 
     let waits = reached_waits (main_of core) s.rest (main_waits core loops) h in
     let used = (clean_of v (front_of v s.rest) (evaluated v s.rest) clean).accessed in
     let i : Found v s.rest q word = identified v s.rest q word waits settled.agrees (used_once core s.rest v h (access_once core apart) used) (ported v s.rest q word wired) (needs_of core)
-        (λ P m g. core_needs core P m s.rest h g) (rank_in ranks) (falls_of core ranks (there core sound) o) in
+    (λ P m g. core_needs core P m s.rest h g) (rank_in ranks) (falls_of core ranks (there core sound) o) in
     let writes = identified_writes v s.rest q word i (front_apart core offers s.rest h v) in
     record {
       instant = i.instant;

@@ -1,4 +1,4 @@
-ghost use Rattle.std.specs.Prelude.{◌≡◌, ℕ, List, None};
+ghost use Rattle.std.specs.Prelude.{◌≡◌, ◌<◌, ◌≤◌, ℕ, List, None};
 ghost use Rattle.hc_tree.specs.declared.refusal.Node.{Node};
 ghost use Rattle.hc_core.specs.Typed.{kinds_of};
 ghost use Rattle.hc_core.specs.Sound.{IsSound};
@@ -30,6 +30,14 @@ pub fn numbers_in_order()
 /// take no clock and the values of a clock have an order.
 pub fn one_instant()
     ensures { (core : Core) (ranks : List (Node × ℕ)) → IsSound core → LoopsWait core → IsOrder core ranks → HasOneInstant core }
+{}
+
+/// Such a core has one run of n clean clocks on a trace, if it has one: its states and its outputs.
+pub fn one_run()
+    ensures states { (core : Core) (ranks : List (Node × ℕ)) → IsSound core → LoopsWait core → IsOrder core ranks
+        → (trace : ℕ → List ℕ) (n : ℕ) (a b : Run core trace n) (t : ℕ) → t ≤ n → a.state t ≡ b.state t }
+    ensures outputs { (core : Core) (ranks : List (Node × ℕ)) → IsSound core → LoopsWait core → IsOrder core ranks
+        → (trace : ℕ → List ℕ) (n : ℕ) (a b : Run core trace n) (t : ℕ) → t < n → a.shown t ≡ b.shown t }
 {}
 
 /// In a clean clock of such a core, which accesses no RAM or ROM twice in one action or condition and none in a case or an

@@ -3,4 +3,4 @@
 
 mod laws;
 
-pub use laws::{clean_clock, nets_are_the_clock, numbers_in_order, one_instant};
+pub use laws::{clean_clock, nets_are_the_clock, numbers_in_order, one_instant, one_run};
