@@ -13,7 +13,8 @@ use Rattle.hc_meaning.specs.Value.{Instant, World, number_of, typed, words, unar
 use Rattle.hc_meaning.specs.Control.{resolved, evaluated, front, Condition, Leaf, does, chooses_from}
 use Rattle.hc_meaning.specs.Clock.{Agrees, behind_edge}
 use Rattle.hc_meaning.proofs.Sets.{Waits, partners, needs}
-use Rattle.hc_meaning.specs.Uses.{action_accesses, leaf_accesses, indexes, access_at, leaf_words, condition_words, words_used, clock_accesses}
+use Rattle.hc_meaning.specs.Uses.{leaf_accesses, indexes, access_at, leaf_words, condition_words, words_used, clock_accesses}
+use Rattle.hc_meaning.specs.Clock.{action_accesses}
 use Rattle.hc_meaning.specs.Nets.{Member, but_for, IsUsed}
 use Rattle.hc_meaning.proofs.Every.{Every, every_left, every_right, HoldsAt}
 use Rattle.hc_meaning.proofs.Alike.{UsedIn}

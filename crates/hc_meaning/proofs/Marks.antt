@@ -3,7 +3,8 @@ use Rattle.std.specs.Prelude.{◌≡◌, ◌≤◌, ℕ, List, [], ◌∷◌, �
 use Rattle.hc_core.specs.Program.{Expression}
 use Rattle.hc_core.specs.Depends.{Access, accesses}
 use Rattle.hc_meaning.specs.Residual.{Action, Offer, Residual, Skip, Act, Prialt, PrialtElse, Then, Par, If, While, DoWhile, Switch, Branches, ended, ◌∥◌, Cases, no_case, case_of, Arms, no_arm, arm}
-use Rattle.hc_meaning.specs.Uses.{action_accesses, indexes}
+use Rattle.hc_meaning.specs.Uses.{indexes}
+use Rattle.hc_meaning.specs.Clock.{action_accesses}
 use Rattle.hc_meaning.specs.Nets.{Member}
 use Rattle.hc_meaning.proofs.Sets.{offer_accesses}
 

@@ -16,7 +16,8 @@ use Rattle.hc_meaning.specs.Value.{World, Instant, number_of}
 use Rattle.hc_meaning.specs.Control.{resolved, evaluated, front, some_ready, Condition, Leaf, does, chooses_from}
 use Rattle.hc_meaning.specs.Clock.{assigned, presented, signal_bits, is_send, is_receive, each_from}
 use Rattle.hc_meaning.proofs.Sets.{Waits, partners, action_needs, needs}
-use Rattle.hc_meaning.specs.Uses.{action_accesses, indexes, access_at, leaf_words, condition_words}
+use Rattle.hc_meaning.specs.Uses.{indexes, access_at, leaf_words, condition_words}
+use Rattle.hc_meaning.specs.Clock.{action_accesses}
 use Rattle.hc_meaning.proofs.Every.{Every, every_left, every_right, HoldsAt, needs_right, in_case}
 use Rattle.hc_meaning.proofs.Alike.{UsedIn}
 use Rattle.hc_meaning.proofs.Fronts.{Shows, Watch, alike}

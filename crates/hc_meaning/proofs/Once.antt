@@ -1,19 +1,19 @@
 -- Where all uses of each RAM and ROM are one, by their numbers, and no action or condition accesses one twice, each has one use.
-use Rattle.std.proofs.Common.{◌≡◌, ◌⊎◌, inl, inr, ℕ, suc, ◌<◌, ◌≤◌, Bool, true, false, ◌||◌, ◌==◌, nat_lt, ltb-true, ltb-false, slice_index_or, List, [], ◌∷◌, ◌++◌, map, length, flat_map, refl, sym, ap, ◌∙◌, subst, arith}
+use Rattle.std.proofs.Common.{◌≡◌, ◌⊎◌, inl, inr, ℕ, suc, ◌<◌, ◌≤◌, Bool, true, false, ◌||◌, ◌==◌, nat_lt, ltb-true, ltb-false, slice_index_or, List, [], ◌∷◌, map, length, flat_map, refl, sym, ap, ◌∙◌, subst, arith}
 use Rattle.hc_core.specs.Program.{Expression}
 use Rattle.hc_core.specs.Depends.{accesses}
 use Rattle.hc_core.specs.Read.{statement}
 use Rattle.hc_core.specs.declared.object.Core.{Core}
-use Rattle.hc_meaning.specs.Residual.{Action, Residual, residual}
+use Rattle.hc_meaning.specs.Residual.{Residual, residual}
 use Rattle.hc_meaning.specs.Value.{World}
 use Rattle.std.specs.Prelude.{if◌then◌else◌, AllPairs}
 use Rattle.std.specs.List.{list_any}
-use Rattle.hc_core.specs.Program.{Constant, Register, Element, Word, Signal, Input, Unary, Binary, Slice, Choice, Target, ToRegister, ToElement, ToWord, ToSignal}
-use Rattle.hc_core.specs.Depends.{Access, target_accesses}
-use Rattle.hc_meaning.specs.Residual.{Assign, Delay, Send, Receive}
+use Rattle.hc_core.specs.Depends.{Access}
 use Rattle.hc_meaning.specs.Control.{resolved, evaluated, front, Condition, Leaf, does, chooses_from}
-use Rattle.hc_meaning.specs.Clock.{reads, target_uses, action_uses, leaf_uses, leaf_number, user, users}
-use Rattle.hc_meaning.specs.Uses.{action_accesses, indexes, access_at, leaf_words, condition_words, words_used}
+use Rattle.hc_meaning.specs.Clock.{leaf_uses, condition_uses, leaf_number, user, users}
+use Rattle.hc_core.specs.Rules.{accessed}
+use Rattle.hc_meaning.specs.Uses.{indexes, access_at, leaf_words, condition_words, words_used}
+use Rattle.hc_meaning.specs.Clock.{action_accesses}
 use Rattle.hc_meaning.specs.Nets.{Member}
 use Rattle.hc_meaning.proofs.Identify.{AllAre, OneUse}
 use Rattle.hc_meaning.proofs.Marks.{Mark, Does, Tests, marks, mark_accesses, AccessOnce}
@@ -48,65 +48,33 @@ flat_of f (b ∷ list) x m = by (in_either x (f b) (flat_map f list) m) (flat_of
     by (inl h) g = (b, inl refl, h)
     by (inr h) g = let r = g h in (r.0, inr r.1, r.2)
 
--- what an expression or an action accesses, by object
-map_both : (a b : List Access) → map (λ (x : Access). x.0) (a ++ b) ≡ map (λ (x : Access). x.0) a ++ map (λ (x : Access). x.0) b
-map_both [] b = refl
-map_both (x ∷ a) b = ap (λ l. x.0 ∷ l) (map_both a b)
-
-abbrev pub objects : List Access → List ℕ
-objects list = map (λ (x : Access). x.0) list
-
-pub reads_are : (e : Expression) → reads e ≡ objects (accesses e)
-reads_are (Constant n) = refl
-reads_are (Register k) = refl
-reads_are (Element k i) = reads_are i
-reads_are (Word k i) = ap (λ l. k ∷ l) (reads_are i)
-reads_are (Signal k) = refl
-reads_are (Input k) = refl
-reads_are (Unary op a) = reads_are a
-reads_are (Binary op a b) = rw (reads_are a, reads_are b) (sym (map_both (accesses a) (accesses b)))
-reads_are (Slice a x y) = reads_are a
-reads_are (Choice c a b) = rw (reads_are c, reads_are a, reads_are b) (ap (λ l. l ++ objects (accesses b)) (sym (map_both (accesses c) (accesses a))) ∙ sym (map_both (accesses c ++ accesses a) (accesses b)))
-
-pub target_uses_are : (t : Target) → target_uses t ≡ objects (target_accesses t)
-target_uses_are (ToRegister k) = refl
-target_uses_are (ToElement k i) = reads_are i
-target_uses_are (ToWord k i) = ap (λ l. k ∷ l) (reads_are i)
-target_uses_are (ToSignal k) = refl
-
-pub action_uses_are : (a : Action) → action_uses a ≡ objects (action_accesses a)
-action_uses_are (Assign t e) = rw (target_uses_are t, reads_are e) (sym (map_both (target_accesses t) (accesses e)))
-action_uses_are Delay = refl
-action_uses_are (Send chan e) = reads_are e
-action_uses_are (Receive chan t) = target_uses_are t
-
 -- an access is by the number of what accesses
-pub some_user : (k n : ℕ) (v : World) (list : List Access) (x : ℕ × ℕ) → Member x (map (access_at n v) (indexes k list)) → (x.0 ≡ n) × Member n (user k n (objects list))
+pub some_user : (k n : ℕ) (v : World) (list : List Access) (x : ℕ × ℕ) → Member x (map (access_at n v) (indexes k list)) → (x.0 ≡ n) × Member n (user k n (accessed list))
 some_user k n v [] x m = absurd m
 some_user k n v (a ∷ list) x m = by (a.0 == k) m (some_user k n v list x)
   where
     first : (b : Bool) → Member n (if true || b then n ∷ [] else [])
     first b = inl refl
 
-    of : Member x (access_at n v a.1 ∷ map (access_at n v) (indexes k list)) → (Member x (map (access_at n v) (indexes k list)) → (x.0 ≡ n) × Member n (user k n (objects list))) → x.0 ≡ n
+    of : Member x (access_at n v a.1 ∷ map (access_at n v) (indexes k list)) → (Member x (map (access_at n v) (indexes k list)) → (x.0 ≡ n) × Member n (user k n (accessed list))) → x.0 ≡ n
     of (inl e) f = sym (ap (λ (y : ℕ × ℕ). y.0) e)
     of (inr m) f = (f m).0
 
-    by : (b : Bool) → Member x (map (access_at n v) (if b then a.1 ∷ indexes k list else indexes k list)) → (Member x (map (access_at n v) (indexes k list)) → (x.0 ≡ n) × Member n (user k n (objects list)))
-        → (x.0 ≡ n) × Member n (if b || list_any (λ j. j == k) (objects list) then n ∷ [] else [])
+    by : (b : Bool) → Member x (map (access_at n v) (if b then a.1 ∷ indexes k list else indexes k list)) → (Member x (map (access_at n v) (indexes k list)) → (x.0 ≡ n) × Member n (user k n (accessed list)))
+        → (x.0 ≡ n) × Member n (if b || list_any (λ j. j == k) (accessed list) then n ∷ [] else [])
     by true m f = (of m f, inl refl)
     by false m f = f m
 
 leaf_user : (k : ℕ) (v : World) (l : Leaf) (x : ℕ × ℕ) → Member x (leaf_words k v l) → Member x.0 (user k (leaf_number l) (leaf_uses l))
 leaf_user k v (does n a) x h =
     let u = some_user k n v (action_accesses a) x h in
-    subst (λ m. Member m (user k n (action_uses a))) (sym u.0) (subst (λ l. Member n (user k n l)) (sym (action_uses_are a)) u.1)
+    subst (λ m. Member m (user k n (accessed (action_accesses a)))) (sym u.0) u.1
 leaf_user k v (chooses_from n cases) x h = absurd h
 
-condition_user : (k : ℕ) (v : World) (c : Condition) (x : ℕ × ℕ) → Member x (condition_words k v c) → Member x.0 (user k c.number (reads c.value))
+condition_user : (k : ℕ) (v : World) (c : Condition) (x : ℕ × ℕ) → Member x (condition_words k v c) → Member x.0 (user k c.number (condition_uses c))
 condition_user k v c x h =
     let u = some_user k c.number v (accesses c.value) x h in
-    subst (λ m. Member m (user k c.number (reads c.value))) (sym u.0) (subst (λ l. Member c.number (user k c.number l)) (sym (reads_are c.value)) u.1)
+    subst (λ m. Member m (user k c.number (condition_uses c))) (sym u.0) u.1
 
 -- an access is by a use
 pub user_of : (k : ℕ) (w : World) (r : Residual) (x : ℕ × ℕ) → Member x (words_used k w r) → Member x.0 (users k (front (resolved w r)) (evaluated w r))
@@ -115,12 +83,12 @@ user_of k w r x m = by (in_either x (flat_map (leaf_words k w) (front (resolved 
     by : Member x (flat_map (leaf_words k w) (front (resolved w r))) ⊎ Member x (flat_map (condition_words k w) (evaluated w r)) → Member x.0 (users k (front (resolved w r)) (evaluated w r))
     by (inl h) =
         let a = flat_of (leaf_words k w) (front (resolved w r)) x h in
-        in_left x.0 (flat_map (λ l. user k (leaf_number l) (leaf_uses l)) (front (resolved w r))) (flat_map (λ c. user k c.number (reads c.value)) (evaluated w r))
+        in_left x.0 (flat_map (λ l. user k (leaf_number l) (leaf_uses l)) (front (resolved w r))) (flat_map (λ c. user k c.number (condition_uses c)) (evaluated w r))
         (flat_in (λ l. user k (leaf_number l) (leaf_uses l)) (front (resolved w r)) a.0 x.0 a.1 (leaf_user k w a.0 x a.2))
     by (inr h) =
         let a = flat_of (condition_words k w) (evaluated w r) x h in
-        in_right x.0 (flat_map (λ l. user k (leaf_number l) (leaf_uses l)) (front (resolved w r))) (flat_map (λ c. user k c.number (reads c.value)) (evaluated w r))
-        (flat_in (λ c. user k c.number (reads c.value)) (evaluated w r) a.0 x.0 a.1 (condition_user k w a.0 x a.2))
+        in_right x.0 (flat_map (λ l. user k (leaf_number l) (leaf_uses l)) (front (resolved w r))) (flat_map (λ c. user k c.number (condition_uses c)) (evaluated w r))
+        (flat_in (λ c. user k c.number (condition_uses c)) (evaluated w r) a.0 x.0 a.1 (condition_user k w a.0 x a.2))
 
 -- two members of a list of one
 only_one : (n : ℕ) (v : World) (list : List Expression) (x y : ℕ × ℕ) → length list ≤ 1 → Member x (map (access_at n v) list) → Member y (map (access_at n v) list) → x ≡ y

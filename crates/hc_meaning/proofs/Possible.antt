@@ -5,17 +5,19 @@ use Rattle.std.specs.Prelude.{if◌then◌else◌}
 use Rattle.std.specs.List.{list_any}
 use Rattle.hc_core.specs.Depends.{Access, accesses}
 use Rattle.hc_core.specs.Typed.{kinds_of}
+use Rattle.hc_core.specs.Rules.{accessed}
 use Rattle.hc_core.specs.declared.object.Core.{Core}
 use Rattle.hc_meaning.specs.Residual.{Residual, Sends, Receives, Cases, no_case, case_of}
 use Rattle.hc_meaning.specs.Value.{World}
 use Rattle.hc_meaning.specs.Control.{resolved, evaluated, front, Condition, Leaf, does, chooses_from}
-use Rattle.hc_meaning.specs.Clock.{reads, case_uses, leaf_uses, leaf_number, user, users}
+use Rattle.hc_meaning.specs.Clock.{offered_accesses, condition_uses, leaf_uses, leaf_number, user, users}
 use Rattle.hc_meaning.specs.Run.{Run, Settled, world_in, conflict, front_of, IsSettled}
-use Rattle.hc_meaning.specs.Uses.{action_accesses, indexes, access_at, leaf_words, condition_words, words_used}
+use Rattle.hc_meaning.specs.Uses.{indexes, access_at, leaf_words, condition_words, words_used}
+use Rattle.hc_meaning.specs.Clock.{action_accesses}
 use Rattle.hc_meaning.specs.Nets.{Member, AccessesApart, OffersApart, but_for, PortUse, Wired}
 use Rattle.hc_meaning.proofs.Identify.{AllAre, OneUse, in_left, in_right, in_either, is_one}
 use Rattle.hc_meaning.proofs.Law.{reached}
-use Rattle.hc_meaning.proofs.Once.{objects, reads_are, target_uses_are, action_uses_are, every_member, flat_in, flat_of, used_once}
+use Rattle.hc_meaning.proofs.Once.{every_member, flat_in, flat_of, used_once}
 use Rattle.hc_meaning.proofs.Every.{Every}
 use Rattle.hc_meaning.proofs.Marks.{Mark, case_offers, reaches_no_word}
 use Rattle.hc_meaning.proofs.Writes.{LeafApart}
@@ -30,7 +32,7 @@ use Rattle.hc_meaning.proofs.Twice.{clean_of}
 abbrev Accessed : ℕ → List (ℕ × ℕ) → Type 0
 Accessed n list = (x : ℕ × ℕ) × Member x list × (x.0 ≡ n)
 
-some_access : (k n m : ℕ) (v : World) (list : List Access) → Member m (user k n (objects list)) → Accessed m (map (access_at n v) (indexes k list))
+some_access : (k n m : ℕ) (v : World) (list : List Access) → Member m (user k n (accessed list)) → Accessed m (map (access_at n v) (indexes k list))
 some_access k n m v [] h = absurd h
 some_access k n m v (a ∷ list) h = by (a.0 == k) h (some_access k n m v list)
   where
@@ -38,37 +40,37 @@ some_access k n m v (a ∷ list) h = by (a.0 == k) h (some_access k n m v list)
     first (inl e) = e
     first (inr e) = absurd e
 
-    by : (b : Bool) → Member m (if b || list_any (λ j. j == k) (objects list) then n ∷ [] else [])
-        → (Member m (user k n (objects list)) → Accessed m (map (access_at n v) (indexes k list)))
+    by : (b : Bool) → Member m (if b || list_any (λ j. j == k) (accessed list) then n ∷ [] else [])
+        → (Member m (user k n (accessed list)) → Accessed m (map (access_at n v) (indexes k list)))
         → Accessed m (map (access_at n v) (if b then a.1 ∷ indexes k list else indexes k list))
     by true g next = (access_at n v a.1, inl refl, first g)
     by false g next = next g
 
 -- a `prialt` whose cases access nothing is no user
-no_case_uses : (cases : Cases) → Every (λ (x : ℕ × Mark). reaches_no_word x.1) (case_offers cases) → case_uses cases ≡ []
-no_case_uses no_case h = refl
-no_case_uses (case_of n (Sends chan e) body rest) h = rw (reads_are e, h.0) (no_case_uses rest h.1)
-no_case_uses (case_of n (Receives chan t) body rest) h = rw (target_uses_are t, h.0) (no_case_uses rest h.1)
+nothing_offered : (cases : Cases) → Every (λ (x : ℕ × Mark). reaches_no_word x.1) (case_offers cases) → offered_accesses cases ≡ []
+nothing_offered no_case h = refl
+nothing_offered (case_of n (Sends chan e) body rest) h = rw h.0 (nothing_offered rest h.1)
+nothing_offered (case_of n (Receives chan t) body rest) h = rw h.0 (nothing_offered rest h.1)
 
 leaf_access : (k m : ℕ) (v : World) (l : Leaf) → LeafApart l → Member m (user k (leaf_number l) (leaf_uses l)) → Accessed m (leaf_words k v l)
-leaf_access k m v (does n a) apart h = some_access k n m v (action_accesses a) (subst (λ l. Member m (user k n l)) (action_uses_are a) h)
-leaf_access k m v (chooses_from n cases) apart h = absurd (subst (λ l. Member m (user k n l)) (no_case_uses cases apart) h)
+leaf_access k m v (does n a) apart h = some_access k n m v (action_accesses a) h
+leaf_access k m v (chooses_from n cases) apart h = absurd (subst (λ l. Member m (user k n (accessed l))) (nothing_offered cases apart) h)
 
-condition_access : (k m : ℕ) (v : World) (c : Condition) → Member m (user k c.number (reads c.value)) → Accessed m (condition_words k v c)
-condition_access k m v c h = some_access k c.number m v (accesses c.value) (subst (λ l. Member m (user k c.number l)) (reads_are c.value) h)
+condition_access : (k m : ℕ) (v : World) (c : Condition) → Member m (user k c.number (condition_uses c)) → Accessed m (condition_words k v c)
+condition_access k m v c h = some_access k c.number m v (accesses c.value) h
 
 user_accesses : (k m : ℕ) (w : World) (r : Residual) → Every LeafApart (front (resolved w r)) → Member m (users k (front (resolved w r)) (evaluated w r)) → Accessed m (words_used k w r)
 user_accesses k m w r apart h =
-    by (in_either m (flat_map (λ l. user k (leaf_number l) (leaf_uses l)) (front (resolved w r))) (flat_map (λ c. user k c.number (reads c.value)) (evaluated w r)) h)
+    by (in_either m (flat_map (λ l. user k (leaf_number l) (leaf_uses l)) (front (resolved w r))) (flat_map (λ c. user k c.number (condition_uses c)) (evaluated w r)) h)
   where
-    by : Member m (flat_map (λ l. user k (leaf_number l) (leaf_uses l)) (front (resolved w r))) ⊎ Member m (flat_map (λ c. user k c.number (reads c.value)) (evaluated w r))
+    by : Member m (flat_map (λ l. user k (leaf_number l) (leaf_uses l)) (front (resolved w r))) ⊎ Member m (flat_map (λ c. user k c.number (condition_uses c)) (evaluated w r))
         → Accessed m (words_used k w r)
     by (inl g) =
         let a = flat_of (λ l. user k (leaf_number l) (leaf_uses l)) (front (resolved w r)) m g in
         let x = leaf_access k m w a.0 (every_member LeafApart (front (resolved w r)) a.0 apart a.1) a.2 in
         (x.0, in_left x.0 (flat_map (leaf_words k w) (front (resolved w r))) (flat_map (condition_words k w) (evaluated w r)) (flat_in (leaf_words k w) (front (resolved w r)) a.0 x.0 a.1 x.1), x.2)
     by (inr g) =
-        let a = flat_of (λ c. user k c.number (reads c.value)) (evaluated w r) m g in
+        let a = flat_of (λ c. user k c.number (condition_uses c)) (evaluated w r) m g in
         let x = condition_access k m w a.0 a.2 in
         (x.0, in_right x.0 (flat_map (leaf_words k w) (front (resolved w r))) (flat_map (condition_words k w) (evaluated w r)) (flat_in (condition_words k w) (evaluated w r) a.0 x.0 a.1 x.1), x.2)
 

@@ -9,7 +9,8 @@ use Rattle.hc_meaning.specs.Residual.{Assign, Delay, Send, Receive, Sends, Recei
 use Rattle.hc_meaning.specs.Value.{World, number_of, typed, words, unary}
 use Rattle.hc_meaning.specs.Control.{resolved, evaluated, front, some_ready, Condition, Leaf, does, chooses_from}
 use Rattle.hc_meaning.specs.Clock.{shown_by, Agrees, assigned, signal_bits}
-use Rattle.hc_meaning.specs.Uses.{action_accesses, indexes, access_at, leaf_words, condition_words, words_used}
+use Rattle.hc_meaning.specs.Uses.{indexes, access_at, leaf_words, condition_words, words_used}
+use Rattle.hc_meaning.specs.Clock.{action_accesses}
 use Rattle.hc_meaning.specs.Nets.{Member, but_for, IsUsed}
 use Rattle.hc_meaning.proofs.Identify.{Ported, OneUse}
 use Rattle.hc_meaning.proofs.Every.{Every}

@@ -8,7 +8,7 @@ use Rattle.std.proofs.lemmas.Bool.{eq-eqb, eqb-true}
 use Rattle.hc_core.specs.Rules.{least, is_in, repeated}
 use Rattle.hc_meaning.specs.Value.{World}
 use Rattle.hc_meaning.specs.Control.{Condition, Leaf}
-use Rattle.hc_meaning.specs.Clock.{IsClean, all_writes, cells_written, signals_of, leaf_number, leaf_uses, reads, user, users, send_offers, receive_offers}
+use Rattle.hc_meaning.specs.Clock.{IsClean, all_writes, cells_written, signals_of, leaf_number, leaf_uses, condition_uses, user, users, send_offers, receive_offers}
 use Rattle.hc_meaning.specs.Twice.{is_cell, written_twice, differ, accessed_in, shared, used_twice, all_used_twice}
 
 -- ---- lists
@@ -157,11 +157,11 @@ both_none xs ys h i = rw (h, i) refl
 unaccessed : (front : List Leaf) (conditions : List Condition) (k : ℕ) → list_any (λ j. j == k) (accessed_in front conditions) ≡ false → users k front conditions ≡ []
 unaccessed front conditions k none =
     let a = flat_map leaf_uses front in
-    let b = flat_map (λ (c : Condition). reads c.value) conditions in
+    let b = flat_map condition_uses conditions in
     let e = sym (list_any-append (λ j. j == k) a b) ∙ none in
-    both_none (flat_map (λ (l : Leaf). user k (leaf_number l) (leaf_uses l)) front) (flat_map (λ (c : Condition). user k c.number (reads c.value)) conditions)
+    both_none (flat_map (λ (l : Leaf). user k (leaf_number l) (leaf_uses l)) front) (flat_map (λ (c : Condition). user k c.number (condition_uses c)) conditions)
     (no_user leaf_number leaf_uses k front (or_first (list_any (λ j. j == k) a) (list_any (λ j. j == k) b) e))
-    (no_user (λ (c : Condition). c.number) (λ (c : Condition). reads c.value) k conditions (or_second (list_any (λ j. j == k) a) (list_any (λ j. j == k) b) e))
+    (no_user (λ (c : Condition). c.number) condition_uses k conditions (or_second (list_any (λ j. j == k) a) (list_any (λ j. j == k) b) e))
 
 none_shared : (front : List Leaf) (conditions : List Condition) (xs : List ℕ) → shared front conditions xs ≡ [] → (k : ℕ) → list_any (λ j. j == k) xs ≡ true
     → differ (users k front conditions) ≡ false

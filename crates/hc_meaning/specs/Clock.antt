@@ -2,7 +2,9 @@
 -- the timing of the Handel-C manual; what goes beyond it is this project's own).
 use Rattle.std.specs.Prelude.{◌≡◌, ◌≢◌, ℕ, ◌+◌, List, [], ◌∷◌, ◌++◌, Bool, true, false, ◌||◌, ◌==◌, nat_lt, bit_or, if◌then◌else◌, Option, Some, None, slice_get, slice_index_or, AllPairs}
 use Rattle.std.specs.List.{list_any, flat_map}
-use Rattle.hc_core.specs.Program.{Expression, Constant, Register, Element, Word, Signal, Input, Unary, Binary, Slice, Choice, Target, ToRegister, ToElement, ToWord, ToSignal}
+use Rattle.hc_core.specs.Program.{Target, ToRegister, ToElement, ToWord, ToSignal}
+use Rattle.hc_core.specs.Depends.{Access, accesses, target_accesses}
+use Rattle.hc_core.specs.Rules.{accessed, is_in}
 use Rattle.hc_core.specs.Read.{expression}
 use Rattle.hc_core.specs.declared.object.Kind.{Kind}
 use Rattle.hc_core.specs.declared.object.Kind.TheVariants as kind
@@ -184,40 +186,26 @@ abbrev pub signals_of : Leaf → List ℕ
 signals_of (does n (Assign (ToSignal k) e)) = k ∷ []
 signals_of _ = []
 
--- the RAMs and ROMs of which an expression reads a word, each as often as it does
-abbrev pub reads : Expression → List ℕ
-reads (Constant n) = []
-reads (Register k) = []
-reads (Element k i) = reads i
-reads (Word k i) = k ∷ reads i
-reads (Signal k) = []
-reads (Input k) = []
-reads (Unary op a) = reads a
-reads (Binary op a b) = reads a ++ reads b
-reads (Slice a high low) = reads a
-reads (Choice c a b) = reads c ++ reads a ++ reads b
+-- what an action accesses of RAMs and ROMs, each word that is read or written
+abbrev pub action_accesses : Action → List Access
+action_accesses (Assign t e) = target_accesses t ++ accesses e
+action_accesses Delay = []
+action_accesses (Send chan e) = accesses e
+action_accesses (Receive chan t) = target_accesses t
 
-abbrev pub target_uses : Target → List ℕ
-target_uses (ToRegister k) = []
-target_uses (ToElement k i) = reads i
-target_uses (ToWord k i) = k ∷ reads i
-target_uses (ToSignal k) = []
+-- what the cases of a `prialt` access, without their arms
+abbrev pub offered_accesses : Cases → List Access
+offered_accesses no_case = []
+offered_accesses (case_of n (Sends chan e) body rest) = accesses e ++ offered_accesses rest
+offered_accesses (case_of n (Receives chan t) body rest) = target_accesses t ++ offered_accesses rest
 
--- the RAMs and ROMs that an action accesses, and those that the cases of a `prialt` access, without their arms
-abbrev pub action_uses : Action → List ℕ
-action_uses (Assign t e) = target_uses t ++ reads e
-action_uses Delay = []
-action_uses (Send chan e) = reads e
-action_uses (Receive chan t) = target_uses t
-
-abbrev pub case_uses : Cases → List ℕ
-case_uses no_case = []
-case_uses (case_of n (Sends chan e) body rest) = reads e ++ case_uses rest
-case_uses (case_of n (Receives chan t) body rest) = target_uses t ++ case_uses rest
-
+-- the RAMs and ROMs that an action of the front accesses, and those that a condition does, each as often as it does
 abbrev pub leaf_uses : Leaf → List ℕ
-leaf_uses (does n a) = action_uses a
-leaf_uses (chooses_from n cases) = case_uses cases
+leaf_uses (does n a) = accessed (action_accesses a)
+leaf_uses (chooses_from n cases) = accessed (offered_accesses cases)
+
+abbrev pub condition_uses : Condition → List ℕ
+condition_uses c = accessed (accesses c.value)
 
 -- the number of an action
 abbrev pub leaf_number : Leaf → ℕ
@@ -226,11 +214,11 @@ leaf_number (chooses_from n cases) = n
 
 -- the number of an action or condition that accesses object k, where it does
 abbrev pub user : ℕ → ℕ → List ℕ → List ℕ
-user k n accessed = if list_any (λ j. j == k) accessed then n ∷ [] else []
+user k n uses = if is_in k uses then n ∷ [] else []
 
 -- the uses of a RAM or ROM in a clock, by their numbers: the actions of the front and the evaluated conditions that access it
 abbrev pub users : ℕ → List Leaf → List Condition → List ℕ
-users k front conditions = flat_map (λ l. user k (leaf_number l) (leaf_uses l)) front ++ flat_map (λ c. user k c.number (reads c.value)) conditions
+users k front conditions = flat_map (λ l. user k (leaf_number l) (leaf_uses l)) front ++ flat_map (λ c. user k c.number (condition_uses c)) conditions
 
 -- the channels on which sends and receives are offered, those of all cases of a `prialt` with them
 abbrev pub case_sends : Cases → List ℕ

@@ -4,7 +4,7 @@ use Rattle.std.specs.List.{list_any, flat_map}
 use Rattle.hc_core.specs.Rules.{least, repeated}
 use Rattle.hc_meaning.specs.Value.{World}
 use Rattle.hc_meaning.specs.Control.{Condition, Leaf}
-use Rattle.hc_meaning.specs.Clock.{all_writes, cells_written, signals_of, leaf_uses, reads, users, send_offers, receive_offers}
+use Rattle.hc_meaning.specs.Clock.{all_writes, cells_written, signals_of, leaf_uses, condition_uses, users, send_offers, receive_offers}
 
 abbrev pub is_cell : ℕ × ℕ → ℕ × ℕ → Bool
 is_cell a b = (a.0 == b.0) && (a.1 == b.1)
@@ -21,7 +21,7 @@ differ (n ∷ rest) = list_any (λ m. not (m == n)) rest
 
 -- the RAMs and ROMs that are accessed in a clock
 abbrev pub accessed_in : List Leaf → List Condition → List ℕ
-accessed_in front conditions = flat_map leaf_uses front ++ flat_map (λ c. reads c.value) conditions
+accessed_in front conditions = flat_map leaf_uses front ++ flat_map condition_uses conditions
 
 -- those of some RAMs and ROMs that have two users
 abbrev pub shared : List Leaf → List Condition → List ℕ → List ℕ

@@ -3,18 +3,13 @@
 use Rattle.std.specs.Prelude.{ℕ, List, [], ◌∷◌, ◌++◌, map, ◌==◌, if◌then◌else◌}
 use Rattle.std.specs.List.{flat_map}
 use Rattle.hc_core.specs.Program.{Expression}
-use Rattle.hc_core.specs.Depends.{Access, accesses, target_accesses}
-use Rattle.hc_meaning.specs.Residual.{Action, Assign, Delay, Send, Receive, Residual}
+use Rattle.hc_core.specs.Depends.{Access, accesses}
+use Rattle.hc_meaning.specs.Residual.{Residual}
 use Rattle.hc_meaning.specs.Value.{World, number_of}
+use Rattle.hc_meaning.specs.Clock.{action_accesses}
 use Rattle.hc_meaning.specs.Control.{resolved, evaluated, front, Condition, Leaf, does, chooses_from}
 
--- what an action accesses
-abbrev pub action_accesses : Action → List Access
-action_accesses (Assign t e) = target_accesses t ++ accesses e
-action_accesses Delay = []
-action_accesses (Send chan e) = accesses e
-action_accesses (Receive chan t) = target_accesses t
-
+-- what an action of the front accesses; the cases of a `prialt` are left out
 abbrev pub leaf_accesses : Leaf → List Access
 leaf_accesses (does n a) = action_accesses a
 leaf_accesses (chooses_from n cases) = []
