@@ -1,4 +1,3 @@
 pub mod Places
 pub mod Clocks
-pub mod Meeting
-pub mod Rows
+pub mod Adding

@@ -1,3 +1,4 @@
 pub mod Weight
 pub mod Rules
 pub mod Labels
+pub mod Walk

@@ -1,13 +1,14 @@
-//! The static rules over the core program. So far it has the limit of the weight (L8), loops whose body may take no clock
-//! (S16) and the labels of a `switch` (S22); the rules on channels and RAMs come with their forms.
+//! The static rules over the core program: loops whose body may take no clock (S16), channels in the cases of `prialt` (S18,
+//! S19), accesses of RAMs and ROMs (S20, S21), the labels of a `switch` (S22), and the limit of the weight (L8).
 #![tactic(auto)]
 
-mod labels;
+mod accesses;
+mod finds;
 mod loops;
-mod rules;
-#[cfg(test)]
-mod tests;
+mod numbers;
+mod walk;
 mod weight;
 
-pub use rules::check_rules;
+pub use finds::Finds;
+pub use walk::first_where;
 pub use weight::check_weight;

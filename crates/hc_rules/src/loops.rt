@@ -4,25 +4,28 @@
 ghost use Rattle.std.specs.Prelude.{◌≡◌, ◌&&◌, ◌||◌, None, [], ◌∷◌};
 ghost use Rattle.hc_core.specs.Read.{expression, statement, statements, cases, arms};
 ghost use Rattle.hc_core.specs.Zero as zeros;
-ghost use Rattle.hc_core.specs.Endless.{is_endless};
+ghost use Rattle.hc_core.specs.Rules.{endless, nameless};
 ghost use Rattle.hc_core.specs.FirstPlace as places;
 ghost use Rattle.hc_core.specs.FirstPlace.{first_where, first_in, first_in_cases, first_in_arms};
 
 use hc_core::{Arm, Case, Expr, Stmt};
 use hc_tree::Place;
 
+/// The place at which a rule is broken, and the number of the object that it names, if it names one.
+pub(crate) type Breach = (Place, Option<u32>);
+
 /// What S16 asks of a part of a core.
 #[derive(Clone, Copy)]
 struct Clocks {
     /// Whether the part may take no clock.
     zero: bool,
-    /// The place of the first loop in the part that breaks S16.
-    endless: Option<Place>,
+    /// The first loop in the part that breaks S16.
+    endless: Option<Breach>,
 }
 
 /// The place of the first loop of a statement that breaks S16, an outer loop before those within it.
-pub(crate) fn first_endless(s: &Stmt) -> Option<Place>
-    ensures { result ≡ first_where is_endless (statement s.now) }
+pub(crate) fn first_endless(s: &Stmt) -> Option<Breach>
+    ensures { result ≡ first_where endless (statement s.now) }
 {
     of_statement(s).endless
 }
@@ -32,7 +35,7 @@ pub(crate) fn first_endless(s: &Stmt) -> Option<Place>
 #[tactic(auto, using(hc_core::proofs::Read::reading))]
 fn of_statement(s: &Stmt) -> Clocks
     ensures zero { result.zero ≡ zeros.zero (statement s.now) }
-    ensures endless { result.endless ≡ first_where is_endless (statement s.now) }
+    ensures endless { result.endless ≡ first_where endless (statement s.now) }
 {
     match s {
         Stmt::Skip => alone(true),
@@ -125,18 +128,18 @@ fn either(first: Clocks, next: Clocks) -> Clocks
 }
 
 /// The place of a loop with this body if it breaks S16, else that of the first loop within the body that does.
-fn at_loop(place: Place, body: Clocks) -> Option<Place>
-    ensures { result ≡ places.here_or body.zero place body.endless }
+fn at_loop(place: Place, body: Clocks) -> Option<Breach>
+    ensures { result ≡ places.here_or place (nameless body.zero) body.endless }
 {
-    if body.zero { Some(place) } else { body.endless }
+    if body.zero { Some((place, None)) } else { body.endless }
 }
 
 /// The first of two places, if there is one.
-fn first_of(first: Option<Place>, rest: Option<Place>) -> Option<Place>
+fn first_of(first: Option<Breach>, rest: Option<Breach>) -> Option<Breach>
     ensures { result ≡ places.first_of first rest }
 {
     match first {
-        Some(place) => Some(place),
+        Some(found) => Some(found),
         None => rest,
     }
 }
@@ -165,7 +168,7 @@ fn always_holds(e: &Expr) -> bool
 #[tactic(auto, using(hc_core::proofs::Read::reading))]
 fn of_all(list: &[Stmt]) -> Clocks
     ensures zero { result.zero ≡ zeros.all_zero (statements list.now) }
-    ensures endless { result.endless ≡ first_in is_endless (statements list.now) }
+    ensures endless { result.endless ≡ first_in endless (statements list.now) }
 {
     let mut all = alone(true);
     let mut rest = list;
@@ -180,8 +183,8 @@ fn of_all(list: &[Stmt]) -> Clocks
 /// The place of the first loop in the arm of a case that breaks S16.
 #[cycle(clocks)]
 #[tactic(auto, using(hc_core::proofs::Read::reading, crate::proofs::Places::nothing_behind))]
-fn of_case(case: &Case) -> Option<Place>
-    ensures { result ≡ first_in_cases is_endless (cases (case.now ∷ [])) }
+fn of_case(case: &Case) -> Option<Breach>
+    ensures { result ≡ first_in_cases endless (cases (case.now ∷ [])) }
 {
     match case {
         Case::Send { arm, .. } => of_statement(arm).endless,
@@ -192,13 +195,13 @@ fn of_case(case: &Case) -> Option<Place>
 /// The place of the first loop in the cases of a `prialt` that breaks S16.
 #[cycle(clocks)]
 #[tactic(auto, using(hc_core::proofs::Read::reading))]
-fn of_cases(list: &[Case]) -> Option<Place>
-    ensures { result ≡ first_in_cases is_endless (cases list.now) }
+fn of_cases(list: &[Case]) -> Option<Breach>
+    ensures { result ≡ first_in_cases endless (cases list.now) }
 {
     let mut rest = list;
     while let [first, behind @ ..] = rest {
         match of_case(first) {
-            Some(place) => return Some(place),
+            Some(found) => return Some(found),
             None => {}
         }
         rest = behind;
@@ -211,7 +214,7 @@ fn of_cases(list: &[Case]) -> Option<Place>
 #[tactic(auto, using(hc_core::proofs::Read::reading))]
 fn of_arms(list: &[Arm]) -> Clocks
     ensures zero { result.zero ≡ zeros.some_zero (arms list.now) }
-    ensures endless { result.endless ≡ first_in_arms is_endless (arms list.now) }
+    ensures endless { result.endless ≡ first_in_arms endless (arms list.now) }
 {
     let mut all = alone(false);
     let mut rest = list;

@@ -2,7 +2,7 @@
 use Rattle.std.proofs.Common.{◌+◌, ◌*◌, [], ◌∷◌, length}
 use Rattle.hc_core.specs.Read.{statement, statements, cases, arms}
 use Rattle.hc_core.specs.Parts.{statement_parts, all_parts, cases_parts, arms_parts}
-use Rattle.hc_core.specs.Endless.{is_endless}
+use Rattle.hc_core.specs.Rules.{endless}
 use Rattle.hc_rules.proofs.Places.{CasesLeft}
 use Rattle.hc_rules.proofs.Clocks.{Passed, ArmsPassed}
 use Rattle.hc_rules.proofs.loops.+clocks.Given as goal
@@ -29,7 +29,7 @@ abbrev pub decreases-of_all-loop-rest : goal.decreases-of_all-loop-rest
 decreases-of_all-loop-rest l = length l.rest
 
 abbrev pub invariant-of_cases-loop-rest : goal.invariant-of_cases-loop-rest
-invariant-of_cases-loop-rest l = CasesLeft is_endless (cases l.list) (cases l.rest)
+invariant-of_cases-loop-rest l = CasesLeft endless (cases l.list) (cases l.rest)
 
 abbrev pub decreases-of_cases-loop-rest : goal.decreases-of_cases-loop-rest
 decreases-of_cases-loop-rest l = length l.rest
