@@ -1,3 +1,4 @@
 pub mod Places
 pub mod Clocks
 pub mod Adding
+pub mod Offering

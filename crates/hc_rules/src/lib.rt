@@ -3,9 +3,11 @@
 #![tactic(auto)]
 
 mod accesses;
+mod channels;
 mod finds;
 mod loops;
 mod numbers;
+mod offers;
 mod walk;
 mod weight;
 

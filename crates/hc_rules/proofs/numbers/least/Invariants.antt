@@ -1,5 +1,5 @@
 -- What was found is the least of the numbers that were passed, which are the last ones.
-use Rattle.std.proofs.Common.{◌≡◌, ◌≤◌, ◌×◌, length, drop}
+use Rattle.std.proofs.Common.{◌≡◌, ◌≤◌, length, drop}
 use Rattle.hc_core.specs.Rules.{least}
 use Rattle.hc_rules.proofs.numbers.least.Given as goal
 
