@@ -2,3 +2,4 @@ pub mod Places
 pub mod Clocks
 pub mod Adding
 pub mod Offering
+pub mod Meeting

@@ -3,8 +3,11 @@
 #![tactic(auto)]
 
 mod accesses;
+mod cases;
 mod channels;
+
 mod finds;
+mod labels;
 mod loops;
 mod numbers;
 mod offers;
