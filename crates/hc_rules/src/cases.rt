@@ -14,6 +14,7 @@ use hc_core::{Case, Stmt};
 use std::alloc::{AllocError, Global};
 
 /// S19: a channel that stands in two cases of one `prialt`.
+#[derive(Clone, Copy)]
 pub(crate) struct TwoCases {
     pub(crate) alloc: Global,
 }
@@ -29,6 +30,7 @@ impl Finds for TwoCases {
 }
 
 /// S20: a RAM or ROM that is accessed twice in one action or one condition.
+#[derive(Clone, Copy)]
 pub(crate) struct AccessedTwice {
     pub(crate) alloc: Global,
 }
@@ -44,6 +46,7 @@ impl Finds for AccessedTwice {
 }
 
 /// S21: a RAM or ROM in the value or target of a case.
+#[derive(Clone, Copy)]
 pub(crate) struct InACase {
     pub(crate) alloc: Global,
 }

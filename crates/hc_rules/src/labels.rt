@@ -14,6 +14,7 @@ use indexmap::IndexSet;
 use std::alloc::{AllocError, Global};
 
 /// S22: a `switch` that has a value twice among its labels.
+#[derive(Clone, Copy)]
 pub(crate) struct RepeatsLabel {
     pub(crate) alloc: Global,
 }

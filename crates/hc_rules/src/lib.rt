@@ -5,15 +5,17 @@
 mod accesses;
 mod cases;
 mod channels;
-
 mod finds;
 mod labels;
 mod loops;
 mod numbers;
+mod objects;
 mod offers;
+mod rules;
 mod walk;
 mod weight;
 
 pub use finds::Finds;
+pub use rules::check_rules;
 pub use walk::first_where;
 pub use weight::check_weight;
