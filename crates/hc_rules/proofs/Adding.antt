@@ -1,5 +1,5 @@
 -- What parts add one after the other is what the whole adds.
-use Rattle.std.proofs.Common.{◌≡◌, ℕ, ◌<◌, List, [], ◌∷◌, ◌++◌, length, map, refl, sym, ap, ◌∙◌}
+use Rattle.std.proofs.Common.{◌≡◌, ℕ, ◌<◌, List, [], ◌∷◌, ◌++◌, length, refl, sym, ap, ◌∙◌}
 use Rattle.hc_core.specs.Read.{expression, target, cases, case_before}
 use Rattle.hc_core.specs.Depends.{Access, accesses, target_accesses, case_accesses}
 use Rattle.hc_core.specs.Rules.{accessed, channels}

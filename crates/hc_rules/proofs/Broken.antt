@@ -5,8 +5,8 @@ use Rattle.hc_tree.specs.declared.refusal.Rule.{Rule}
 use Rattle.hc_tree.specs.declared.refusal.Rule.TheVariants.{S16, S18, S19, S20, S21, S22}
 use Rattle.hc_tree.specs.declared.refusal.Refusal.{Refusal}
 use Rattle.hc_core.specs.Read.{statement}
-use Rattle.hc_core.specs.FirstPlace.{first_of, first_where, first_object, first_found}
-use Rattle.hc_core.specs.Rules.{by_no_object, by_no_statement, endless, both_cases, two_cases, accessed_twice, in_a_case, in_an_output, repeats_label, or_else, first_broken}
+use Rattle.hc_core.specs.FirstPlace.{first_of, first_where, first_object}
+use Rattle.hc_core.specs.Rules.{endless, both_cases, two_cases, accessed_twice, in_a_case, in_an_output, repeats_label, or_else, first_broken}
 use Rattle.hc_core.specs.declared.object.Object.{Object}
 use Rattle.hc_core.specs.declared.object.Core.{Core}
 use Rattle.hc_tree.specs.declared.refusal.FrontErr.{FrontErr}

@@ -1,9 +1,9 @@
 -- What the loops of S16 keep: what was passed of a list and what is left of it make up the whole.
-use Rattle.std.proofs.Common.{◌≡◌, ℕ, ◌+◌, ◌*◌, ◌<◌, ◌≤◌, Bool, true, false, ◌&&◌, ◌||◌, List, [], ◌∷◌, length, Option, Some, None, refl, sym, ap, ◌∙◌, subst, arith}
+use Rattle.std.proofs.Common.{◌≡◌, ℕ, ◌<◌, ◌≤◌, Bool, true, false, ◌&&◌, ◌||◌, List, ◌∷◌, length, Option, Some, None, refl, sym, ap, ◌∙◌, subst, arith}
 use Rattle.hc_tree.specs.declared.place.Place.{Place}
-use Rattle.hc_core.specs.Program.{Statement, Statements, stop, ◌⨾◌, Arms, no_arm, arm}
+use Rattle.hc_core.specs.Program.{Statements, ◌⨾◌, Arms, arm}
 use Rattle.hc_core.specs.Read.{statement, statements, arms}
-use Rattle.hc_core.specs.Parts.{statement_parts, all_parts, arms_parts}
+use Rattle.hc_core.specs.Parts.{all_parts, arms_parts}
 use Rattle.hc_core.specs.Zero.{zero, all_zero, some_zero, has_default}
 use Rattle.hc_core.specs.declared.stmt.Stmt.{Stmt}
 use Rattle.hc_core.specs.declared.stmt.Arm.{Arm}

@@ -1,5 +1,5 @@
 -- What is found first in objects, and rules that no object or no statement breaks.
-use Rattle.std.proofs.Common.{◌≡◌, ℕ, ◌+◌, ◌^◌, ◌<◌, ◌≤◌, Bool, ◌&&◌, if◌then◌else◌, List, [], ◌∷◌, length, Option, Some, None, refl, sym, ap, ◌∙◌, arith}
+use Rattle.std.proofs.Common.{◌≡◌, ℕ, ◌+◌, ◌^◌, ◌<◌, ◌≤◌, List, [], ◌∷◌, length, Option, None, refl, sym, ap, ◌∙◌, arith}
 use Rattle.std.specs.List.{sum_by}
 use Rattle.std.proofs.lemmas.List.{length-map}
 use Rattle.std.proofs.lemmas.List.Sums.{sum_by-cons}
@@ -7,15 +7,14 @@ use Rattle.hc_tree.specs.declared.place.Place.{Place}
 use Rattle.hc_core.specs.Program.{Statement, Skip, Assign, Delay, Send, Receive, Prialt, PrialtElse, Seq, Par, If, While, DoWhile, Switch, Statements, stop, ◌⨾◌, Cases, no_case, send_case, receive_case, Arms, no_arm, arm}
 use Rattle.hc_core.specs.Read.{statement}
 use Rattle.hc_core.specs.Typed.{kinds_of}
-use Rattle.hc_core.specs.Parts.{kind_parts, parts_of}
+use Rattle.hc_core.specs.Parts.{kind_parts}
 use Rattle.hc_core.specs.Sound.{IsSound}
 use Rattle.hc_core.specs.FirstPlace.{first_of, here_or, first_where, first_in, first_in_cases, first_in_arms, first_object, first_found}
-use Rattle.hc_core.specs.Rules.{Found, by_no_object, by_no_statement, is_in, send_channels, receive_channels, both_cases, in_an_output}
+use Rattle.hc_core.specs.Rules.{Found, by_no_object, by_no_statement, in_an_output}
 use Rattle.hc_core.specs.declared.object.Kind.{Kind}
 use Rattle.hc_core.specs.declared.object.Kind.TheVariants as kind
 use Rattle.hc_core.specs.declared.object.Object.{Object}
 use Rattle.hc_core.specs.declared.object.Core.{Core}
-use Rattle.hc_rules.specs.Offered.{offered}
 use Rattle.hc_rules.proofs.Places.{nothing_behind}
 
 -- ---- how many objects

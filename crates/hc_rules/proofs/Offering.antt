@@ -1,6 +1,6 @@
 -- What the loops of S18 keep: the channels that were added and those of the rest of a list make up those of the whole list.
-use Rattle.std.proofs.Common.{◌≡◌, ℕ, ◌+◌, ◌<◌, ◌≤◌, List, [], ◌∷◌, ◌++◌, length, refl, sym, ap, ◌∙◌, subst, arith}
-use Rattle.hc_core.specs.Program.{Statement, Statements, ◌⨾◌, Cases, Arms, arm}
+use Rattle.std.proofs.Common.{◌≡◌, ℕ, ◌+◌, ◌<◌, ◌≤◌, List, [], ◌∷◌, ◌++◌, length, ap, ◌∙◌, arith}
+use Rattle.hc_core.specs.Program.{Statements, Cases, Arms}
 use Rattle.hc_core.specs.Read.{statement, statements, cases, case_before, arms}
 use Rattle.hc_core.specs.Parts.{statement_parts, all_parts, cases_parts, arms_parts}
 use Rattle.hc_core.specs.Rules.{send_channels, all_send, cases_send, arms_send, receive_channels, all_receive, cases_receive, arms_receive}
@@ -11,7 +11,7 @@ use Rattle.hc_core.specs.declared.stmt.Arm.{Arm}
 use Rattle.hc_core.proofs.Listing.{is_empty, rest_is}
 use Rattle.hc_core.proofs.Read.{read_no_statement, read_no_case, read_no_arm}
 use Rattle.hc_rules.proofs.Places.{arms_are}
-use Rattle.hc_rules.proofs.Adding.{Adds, adds_start, adds_next, adds_end, nothing, joined, one_more}
+use Rattle.hc_rules.proofs.Adding.{Adds, adds_start, adds_next, adds_end, nothing, one_more}
 
 pub case_same : (old new b : List ℕ) → new ≡ old ++ b → new ≡ old ++ (b ++ [])
 case_same old new b is = is ∙ ap (λ l. old ++ l) (nothing b)

@@ -6,10 +6,9 @@ ghost use Rattle.hc_core.specs.Depends.{case_accesses};
 ghost use Rattle.hc_core.specs.Rules.{by_object, least, repeated, channels, accessed};
 ghost use Rattle.hc_core.specs.Rules as rules;
 
-use crate::accesses;
-use crate::channels;
 use crate::finds::Finds;
 use crate::numbers::{least, least_repeated};
+use crate::{accesses, channels};
 use hc_core::{Case, Stmt};
 use std::alloc::{AllocError, Global};
 

@@ -12,6 +12,8 @@ mod numbers;
 mod objects;
 mod offers;
 mod rules;
+#[cfg(test)]
+mod tests;
 mod walk;
 mod weight;
 

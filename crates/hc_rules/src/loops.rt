@@ -131,7 +131,11 @@ fn either(first: Clocks, next: Clocks) -> Clocks
 fn at_loop(place: Place, body: Clocks) -> Option<Breach>
     ensures { result ≡ places.here_or place (nameless body.zero) body.endless }
 {
-    if body.zero { Some((place, None)) } else { body.endless }
+    if body.zero {
+        Some((place, None))
+    } else {
+        body.endless
+    }
 }
 
 /// The first of two places, if there is one.

@@ -14,13 +14,7 @@ fn lesser(k: u32, other: Option<u32>) -> u32
 {
     match other {
         None => k,
-        Some(j) => {
-            if j < k {
-                j
-            } else {
-                k
-            }
-        }
+        Some(j) => { if j < k { j } else { k } }
     }
 }
 

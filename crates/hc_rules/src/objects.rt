@@ -113,10 +113,7 @@ fn in_both(
 }
 
 /// S21: the first output with a RAM or ROM in its expression.
-pub(crate) fn first_output(
-    alloc: Global,
-    objects: &[Object],
-) -> Result<Option<Breach>, AllocError>
+pub(crate) fn first_output(alloc: Global, objects: &[Object]) -> Result<Option<Breach>, AllocError>
     ensures { IfOk result (λ found. found ≡ places.first_object rules.in_an_output 0 objects.now) }
 {
     let mut rest = objects;

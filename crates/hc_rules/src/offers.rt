@@ -49,11 +49,7 @@ pub(crate) fn of_statement(
 /// Adds the channels of the cases within the statements of a list.
 #[cycle(offers)]
 #[tactic(auto, using(hc_core::proofs::Read::reading))]
-fn of_all(
-    sends: &mut Vec<u32>,
-    receives: &mut Vec<u32>,
-    list: &[Stmt],
-) -> Result<(), AllocError>
+fn of_all(sends: &mut Vec<u32>, receives: &mut Vec<u32>, list: &[Stmt]) -> Result<(), AllocError>
     ensures sends { OnOk result (sends.new.items ≡ sends.old.items ++ all_send (statements list.now)) }
     ensures receives { OnOk result (receives.new.items ≡ receives.old.items ++ all_receive (statements list.now)) }
 {
@@ -68,11 +64,7 @@ fn of_all(
 /// Adds the channel of a case, and those of the cases within its arm.
 #[cycle(offers)]
 #[tactic(auto, using(hc_core::proofs::Read::reading, crate::proofs::Adding::adding, crate::proofs::Offering::case_more, crate::proofs::Offering::case_same))]
-fn of_case(
-    sends: &mut Vec<u32>,
-    receives: &mut Vec<u32>,
-    case: &Case,
-) -> Result<(), AllocError>
+fn of_case(sends: &mut Vec<u32>, receives: &mut Vec<u32>, case: &Case) -> Result<(), AllocError>
     ensures sends { OnOk result (sends.new.items ≡ sends.old.items ++ cases_send (cases (case.now ∷ []))) }
     ensures receives { OnOk result (receives.new.items ≡ receives.old.items ++ cases_receive (cases (case.now ∷ []))) }
 {
@@ -91,11 +83,7 @@ fn of_case(
 /// Adds the channels of the cases of a `prialt`, and those of the cases within their arms.
 #[cycle(offers)]
 #[tactic(auto, using(hc_core::proofs::Read::reading))]
-fn of_cases(
-    sends: &mut Vec<u32>,
-    receives: &mut Vec<u32>,
-    list: &[Case],
-) -> Result<(), AllocError>
+fn of_cases(sends: &mut Vec<u32>, receives: &mut Vec<u32>, list: &[Case]) -> Result<(), AllocError>
     ensures sends { OnOk result (sends.new.items ≡ sends.old.items ++ cases_send (cases list.now)) }
     ensures receives { OnOk result (receives.new.items ≡ receives.old.items ++ cases_receive (cases list.now)) }
 {
@@ -110,11 +98,7 @@ fn of_cases(
 /// Adds the channels of the cases within the bodies of the arms of a `switch`.
 #[cycle(offers)]
 #[tactic(auto, using(hc_core::proofs::Read::reading))]
-fn of_arms(
-    sends: &mut Vec<u32>,
-    receives: &mut Vec<u32>,
-    list: &[Arm],
-) -> Result<(), AllocError>
+fn of_arms(sends: &mut Vec<u32>, receives: &mut Vec<u32>, list: &[Arm]) -> Result<(), AllocError>
     ensures sends { OnOk result (sends.new.items ≡ sends.old.items ++ arms_send (arms list.now)) }
     ensures receives { OnOk result (receives.new.items ≡ receives.old.items ++ arms_receive (arms list.now)) }
 {

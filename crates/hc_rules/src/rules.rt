@@ -1,4 +1,4 @@
-ghost use Rattle.std.specs.Prelude.{◌≡◌, Some, None, Ok, OnOk, IfOk, IfErr};
+ghost use Rattle.std.specs.Prelude.{◌≡◌, ◌<◌, ◌^◌, Some, None, Ok, length, OnOk, IfOk, IfErr};
 ghost use Rattle.hc_core.specs.Read.{statement};
 ghost use Rattle.hc_core.specs.Sound.{IsSound};
 ghost use Rattle.hc_core.specs.FirstPlace as places;
@@ -23,13 +23,37 @@ pub fn check_rules(alloc: Global, core: &Core) -> Result<(), FrontErr>
     ensures kept { IfOk result (λ _. rules.first_broken core.now ≡ None) }
     ensures refused { IfErr result (λ e. IfRefused e (λ r. rules.first_broken core.now ≡ Some r)) }
 {
+    first_broken(alloc, core)
+}
+
+/// The first rule that a core of few objects breaks.
+pub(crate) fn first_broken(alloc: Global, core: &Core) -> Result<(), FrontErr>
+    requires { length core.now.objects < 2 ^ 32 }
+    ensures kept { IfOk result (λ _. rules.first_broken core.now ≡ None) }
+    ensures refused { IfErr result (λ e. IfRefused e (λ r. rules.first_broken core.now ≡ Some r)) }
+{
     let main = &core.main;
     kept(alloc, core, Rule::S16, Ok(first_endless(main)))?;
     kept(alloc, core, Rule::S18, first_in_both(alloc, core))?;
-    kept(alloc, core, Rule::S19, first_where(&TwoCases { alloc }, main))?;
-    kept(alloc, core, Rule::S20, first_where(&AccessedTwice { alloc }, main))?;
+    kept(
+        alloc,
+        core,
+        Rule::S19,
+        first_where(&TwoCases { alloc }, main),
+    )?;
+    kept(
+        alloc,
+        core,
+        Rule::S20,
+        first_where(&AccessedTwice { alloc }, main),
+    )?;
     kept(alloc, core, Rule::S21, first_access(alloc, core))?;
-    kept(alloc, core, Rule::S22, first_where(&RepeatsLabel { alloc }, main))
+    kept(
+        alloc,
+        core,
+        Rule::S22,
+        first_where(&RepeatsLabel { alloc }, main),
+    )
 }
 
 /// S21: the first RAM or ROM in an output, else the first in a case.
@@ -69,11 +93,7 @@ fn kept(
 }
 
 /// The name of the object that a refusal names.
-fn detail_of(
-    alloc: Global,
-    core: &Core,
-    named: Option<u32>,
-) -> Result<Detail, AllocError>
+fn detail_of(alloc: Global, core: &Core, named: Option<u32>) -> Result<Detail, AllocError>
     ensures { IfOk result (λ detail. detail ≡ rules.detail_of core.now.objects named) }
 {
     match named {

@@ -15,10 +15,7 @@ use std::alloc::AllocError;
 /// that of the finder. It takes no memory of its own.
 #[cycle(walk)]
 #[tactic(auto, using(crate::proofs::Places::here_then_within))]
-pub fn first_where<F: Finds>(
-    finder: &F,
-    s: &Stmt,
-) -> Result<Option<(Place, F::Found)>, AllocError>
+pub fn first_where<F: Finds>(finder: &F, s: &Stmt) -> Result<Option<(Place, F::Found)>, AllocError>
     ensures { IfOk result (λ found. found ≡ places.first_where F.finds (statement s.now)) }
 {
     match here(finder, s) {
@@ -102,10 +99,7 @@ fn within<F: Finds>(finder: &F, s: &Stmt) -> Result<Option<(Place, F::Found)>, A
 /// What is found first in the statements of a list.
 #[cycle(walk)]
 #[tactic(auto, using(hc_core::proofs::Read::reading))]
-fn in_all<F: Finds>(
-    finder: &F,
-    list: &[Stmt],
-) -> Result<Option<(Place, F::Found)>, AllocError>
+fn in_all<F: Finds>(finder: &F, list: &[Stmt]) -> Result<Option<(Place, F::Found)>, AllocError>
     ensures { IfOk result (λ found. found ≡ places.first_in F.finds (statements list.now)) }
 {
     let mut rest = list;
@@ -123,10 +117,7 @@ fn in_all<F: Finds>(
 /// What is found first in the arm of a case.
 #[cycle(walk)]
 #[tactic(auto, using(hc_core::proofs::Read::reading, crate::proofs::Places::nothing_behind))]
-fn in_case<F: Finds>(
-    finder: &F,
-    case: &Case,
-) -> Result<Option<(Place, F::Found)>, AllocError>
+fn in_case<F: Finds>(finder: &F, case: &Case) -> Result<Option<(Place, F::Found)>, AllocError>
     ensures { IfOk result (λ found. found ≡ places.first_in_cases F.finds (cases (case.now ∷ []))) }
 {
     match case {
@@ -138,10 +129,7 @@ fn in_case<F: Finds>(
 /// What is found first in the arms of the cases of a `prialt`.
 #[cycle(walk)]
 #[tactic(auto, using(hc_core::proofs::Read::reading))]
-fn in_cases<F: Finds>(
-    finder: &F,
-    list: &[Case],
-) -> Result<Option<(Place, F::Found)>, AllocError>
+fn in_cases<F: Finds>(finder: &F, list: &[Case]) -> Result<Option<(Place, F::Found)>, AllocError>
     ensures { IfOk result (λ found. found ≡ places.first_in_cases F.finds (cases list.now)) }
 {
     let mut rest = list;
@@ -159,10 +147,7 @@ fn in_cases<F: Finds>(
 /// What is found first in the bodies of the arms of a `switch`.
 #[cycle(walk)]
 #[tactic(auto, using(hc_core::proofs::Read::reading))]
-fn in_arms<F: Finds>(
-    finder: &F,
-    list: &[Arm],
-) -> Result<Option<(Place, F::Found)>, AllocError>
+fn in_arms<F: Finds>(finder: &F, list: &[Arm]) -> Result<Option<(Place, F::Found)>, AllocError>
     ensures { IfOk result (λ found. found ≡ places.first_in_arms F.finds (arms list.now)) }
 {
     let mut rest = list;

@@ -3,19 +3,19 @@ use Rattle.std.proofs.Common.{◌≡◌, Some, rules}
 use Rattle.hc_core.specs.Rules.{first_broken}
 use Rattle.hc_rules.specs.Rules.{IfRefused}
 use Rattle.hc_rules.proofs.Broken.{in_order, is_kept, is_error, is_answer, is_answered}
-use Rattle.hc_rules.proofs.rules.check_rules.Goals as goal
+use Rattle.hc_rules.proofs.rules.first_broken.Goals as goal
 
 pub returns-in_err-kept-clause-refused : goal.returns-in_err-kept-clause-refused
 returns-in_err-kept-clause-refused c =
     let told : IfRefused c.in_err-kept.field-0.0 (λ r. first_broken c.args.core.now ≡ Some r) =
-        is_error _ _ _ _ _ _ (in_order c.args.core.now) c.first_endless.ensures _ c.in_err-kept.ensures.refused in
+    is_error _ _ _ _ _ _ (in_order c.args.core.now) c.first_endless.ensures _ c.in_err-kept.ensures.refused in
     search rules
 
 pub returns-in_err-kept-2-clause-refused : goal.returns-in_err-kept-2-clause-refused
 returns-in_err-kept-2-clause-refused c =
     let to_18 = is_kept _ _ _ _ _ _ (in_order c.args.core.now) c.first_endless.ensures c.in_ok-kept.ensures.kept in
     let told : IfRefused c.in_err-kept-2.field-0.0 (λ r. first_broken c.args.core.now ≡ Some r) =
-        is_error _ _ _ _ _ _ to_18 c.first_in_both.ensures _ c.in_err-kept-2.ensures.refused in
+    is_error _ _ _ _ _ _ to_18 c.first_in_both.ensures _ c.in_err-kept-2.ensures.refused in
     search rules
 
 pub returns-in_err-kept-3-clause-refused : goal.returns-in_err-kept-3-clause-refused
@@ -23,7 +23,7 @@ returns-in_err-kept-3-clause-refused c =
     let to_18 = is_kept _ _ _ _ _ _ (in_order c.args.core.now) c.first_endless.ensures c.in_ok-kept.ensures.kept in
     let to_19 = is_kept _ _ _ _ _ _ to_18 c.first_in_both.ensures c.in_ok-kept-2.ensures.kept in
     let told : IfRefused c.in_err-kept-3.field-0.0 (λ r. first_broken c.args.core.now ≡ Some r) =
-        is_error _ _ _ _ _ _ to_19 c.first_where.ensures _ c.in_err-kept-3.ensures.refused in
+    is_error _ _ _ _ _ _ to_19 c.first_where.ensures _ c.in_err-kept-3.ensures.refused in
     search rules
 
 pub returns-in_err-kept-4-clause-refused : goal.returns-in_err-kept-4-clause-refused
@@ -32,7 +32,7 @@ returns-in_err-kept-4-clause-refused c =
     let to_19 = is_kept _ _ _ _ _ _ to_18 c.first_in_both.ensures c.in_ok-kept-2.ensures.kept in
     let to_20 = is_kept _ _ _ _ _ _ to_19 c.first_where.ensures c.in_ok-kept-3.ensures.kept in
     let told : IfRefused c.in_err-kept-4.field-0.0 (λ r. first_broken c.args.core.now ≡ Some r) =
-        is_error _ _ _ _ _ _ to_20 c.first_where-2.ensures _ c.in_err-kept-4.ensures.refused in
+    is_error _ _ _ _ _ _ to_20 c.first_where-2.ensures _ c.in_err-kept-4.ensures.refused in
     search rules
 
 pub returns-in_err-kept-5-clause-refused : goal.returns-in_err-kept-5-clause-refused
@@ -42,7 +42,7 @@ returns-in_err-kept-5-clause-refused c =
     let to_20 = is_kept _ _ _ _ _ _ to_19 c.first_where.ensures c.in_ok-kept-3.ensures.kept in
     let to_21 = is_kept _ _ _ _ _ _ to_20 c.first_where-2.ensures c.in_ok-kept-4.ensures.kept in
     let told : IfRefused c.in_err-kept-5.field-0.0 (λ r. first_broken c.args.core.now ≡ Some r) =
-        is_error _ _ _ _ _ _ to_21 c.first_access.ensures _ c.in_err-kept-5.ensures.refused in
+    is_error _ _ _ _ _ _ to_21 c.first_access.ensures _ c.in_err-kept-5.ensures.refused in
     search rules
 
 pub returns-clause-kept : goal.returns-clause-kept
