@@ -14,6 +14,7 @@ pub fn and(b: &mut Builder, x: u32, y: u32) -> Result<u32, NoMemory>
     requires room { length b.old.nodes + 1 < 2 ^ 32 }
     ensures circuit { IfOk result (λ z. Makes 1 (x ∷ y ∷ []) b.old b.new (z ∷ []) (λ v. v z ≡ (v x && v y))) }
     ensures never { IfOk result (λ z. IsNever b.old.nodes x ⊎ IsNever b.old.nodes y → IsNever b.new.nodes z) }
+    ensures always { IfOk result (λ z. IsAlways b.old.nodes x → IsAlways b.old.nodes y → IsAlways b.new.nodes z) }
 {
     match b.constant(x) {
         Some(true) => Ok(y),
@@ -26,20 +27,24 @@ pub fn and(b: &mut Builder, x: u32, y: u32) -> Result<u32, NoMemory>
     }
 }
 
-/// 1 where one of the nets is. A constant takes no gate.
+/// 1 where one of the nets is. A constant takes no gate: the other net stands where one net is the constant 0, the first where
+/// both are.
 pub fn or(b: &mut Builder, x: u32, y: u32) -> Result<u32, NoMemory>
     requires left { x < length b.old.nodes }
     requires right { y < length b.old.nodes }
     requires room { length b.old.nodes + 1 < 2 ^ 32 }
     ensures circuit { IfOk result (λ z. Makes 1 (x ∷ y ∷ []) b.old b.new (z ∷ []) (λ v. v z ≡ (v x || v y))) }
     ensures never { IfOk result (λ z. IsNever b.old.nodes x → IsNever b.old.nodes y → IsNever b.new.nodes z) }
+    ensures always { IfOk result (λ z. IsAlways b.old.nodes x ⊎ IsAlways b.old.nodes y → IsAlways b.new.nodes z) }
+    ensures first { IfOk result (λ z. IsNever b.old.nodes y → z ≡ x) }
+    ensures second { IfOk result (λ z. IsNever b.old.nodes x → (z ≡ y) ⊎ IsNever b.old.nodes y) }
 {
-    match b.constant(x) {
-        Some(true) => Ok(x),
-        Some(false) => Ok(y),
-        None => match b.constant(y) {
-            Some(true) => Ok(y),
-            Some(false) => Ok(x),
+    match b.constant(y) {
+        Some(true) => Ok(y),
+        Some(false) => Ok(x),
+        None => match b.constant(x) {
+            Some(true) => Ok(x),
+            Some(false) => Ok(y),
             None => b.gate(GateKind::Or, x, y),
         },
     }
@@ -51,6 +56,7 @@ pub fn not(b: &mut Builder, x: u32) -> Result<u32, NoMemory>
     requires room { length b.old.nodes + 1 < 2 ^ 32 }
     ensures circuit { IfOk result (λ z. Makes 1 (x ∷ []) b.old b.new (z ∷ []) (λ v. v z ≡ not (v x))) }
     ensures never { IfOk result (λ z. IsAlways b.old.nodes x → IsNever b.new.nodes z) }
+    ensures always { IfOk result (λ z. IsNever b.old.nodes x → IsAlways b.new.nodes z) }
 {
     match b.constant(x) {
         Some(true) => b.gate(GateKind::Zero, 0, 0),

@@ -1,4 +1,4 @@
-use Rattle.std.proofs.Common.{false}
+use Rattle.std.proofs.Common.{false, inr}
 use Rattle.hc_token.proofs.Constants.{Adds-constant}
 use Rattle.hc_token.proofs.Controlled.{followed}
 use Rattle.hc_token.proofs.sequence.follow.Goals as goal
@@ -12,3 +12,7 @@ pub returns-clause-never : goal.returns-clause-never
 returns-clause-never c = λ either.
     Adds-constant c.in_ok-pass.pass false c.in_ok-finish.ensures.circuit.adds
     (Adds-constant c.in_ok-pass.pass false c.in_ok-through.ensures.circuit.adds (c.in_ok-pass.ensures.never either))
+
+pub returns-clause-reach : goal.returns-clause-reach
+returns-clause-reach c = λ never.
+    c.in_ok-finish.ensures.first (c.in_ok-through.ensures.never (inr (Adds-constant c.args.second.pass false c.in_ok-pass.ensures.circuit.adds never)))
