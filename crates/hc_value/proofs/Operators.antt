@@ -21,7 +21,7 @@ use Rattle.hc_net.specs.Made.{Over, Makes}
 use Rattle.hc_net.specs.MadeLemmas.{Makes-none, Makes-holds, Over-self, Over-left}
 use Rattle.hc_bits.specs.Held.{held}
 use Rattle.hc_muldiv.proofs.Circuits.{Over-right, Makes-over}
-use Rattle.hc_value.specs.Operands.{number_of, Alike, Fits, MakesUnary, MakesBinary}
+use Rattle.hc_value.specs.Operands.{number_on, Alike, Fits, MakesUnary, MakesBinary}
 use Rattle.hc_value.specs.declared.operand.Operand.{Operand}
 use Rattle.hc_value.proofs.Held.{held_as}
 use Rattle.hc_value.proofs.Places.{joined_number}
@@ -74,7 +74,7 @@ alike_made op o f m old new x y z is alike by le widths sign width made =
     subst (λ p. MakesBinary p x y old new z) (sym is) (record {
       width = λ n. width ∙ sym (widths n);
       made = Makes-holds made le (λ v h.
-          ap (λ s. held s v z) sign ∙ h x.signed ∙ ap (λ s. f (held x.signed v x.nets) (held s v y.nets)) (sym alike.signed) ∙ sym (by (number_of v x) (number_of v y)));
+          ap (λ s. held s v z) sign ∙ h x.signed ∙ ap (λ s. f (held x.signed v x.nets) (held s v y.nets)) (sym alike.signed) ∙ sym (by (number_on v x) (number_on v y)));
     })
 
 -- a comparison of both
@@ -86,7 +86,7 @@ answer_made op o f m old new x y z is alike by le widths sign width made =
     subst (λ p. MakesBinary p x y old new z) (sym is) (record {
       width = λ n. width ∙ sym (widths n);
       made = Makes-holds made le (λ v h.
-          ap (λ s. held s v z) sign ∙ h ∙ ap (λ s. truth (f (held x.signed v x.nets) (held s v y.nets))) (sym alike.signed) ∙ sym (by (number_of v x) (number_of v y)));
+          ap (λ s. held s v z) sign ∙ h ∙ ap (λ s. truth (f (held x.signed v x.nets) (held s v y.nets))) (sym alike.signed) ∙ sym (by (number_on v x) (number_on v y)));
     })
 
 -- a circuit over two lists of nets, as one over them in the other order

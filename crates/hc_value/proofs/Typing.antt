@@ -18,7 +18,7 @@ use Rattle.hc_core.specs.declared.expr.BinOp.TheVariants.{Add, Sub, Mul, Div, Re
 use Rattle.hc_core.specs.declared.object.Kind.{Kind}
 use Rattle.hc_core.proofs.Bounds.{narrow, array_at}
 use Rattle.hc_core.proofs.Types.{widths_are, signs_are}
-use Rattle.hc_meaning.specs.Value.{World, val, binary}
+use Rattle.hc_meaning.specs.Value.{World, number_of, binary}
 use Rattle.hc_value.specs.Moves.{amount, move_by, move_of}
 use Rattle.hc_value.specs.Operands.{Alike, Fits}
 use Rattle.hc_value.specs.declared.moved.Move.{Move}
@@ -235,7 +235,7 @@ move_facts Both n by w is take drop = absurd cc
 move_facts Either n by w is take drop = absurd cc
 
 -- a move is by the number of a constant
-moves_by : (op : BinOp) (by : Move) (b : Expression) → move_of op b ≡ Some by → (move_by op (constant_of b) ≡ Some by) × ((world : World) → (val world b).bits ≡ constant_of b)
+moves_by : (op : BinOp) (by : Move) (b : Expression) → move_of op b ≡ Some by → (move_by op (constant_of b) ≡ Some by) × ((world : World) → (number_of world b).bits ≡ constant_of b)
 moves_by op by (Constant n) is = (is, λ world. refl)
 moves_by op by (Register k) is = absurd cc
 moves_by op by (Element k i) is = absurd cc
@@ -250,7 +250,7 @@ moves_by op by (Choice c a d) is = absurd cc
 -- an operator that makes a move with its second operand
 pub record IsMove (kinds : List Kind) (op : BinOp) (a b : Expression) (by : Move) : Type 0 where
   pub facts : MoveFacts op (constant_of b) by (width_of kinds a)
-  pub bits : (world : World) → (val world b).bits ≡ constant_of b
+  pub bits : (world : World) → (number_of world b).bits ≡ constant_of b
 
 pub is_move : (kinds : List Kind) (op : BinOp) (a b : Expression) (by : Move) → HasSomeType kinds (Binary op a b) → move_of op b ≡ Some by → IsMove kinds op a b by
 is_move kinds op a b by typed is =
@@ -308,7 +308,7 @@ varies (Slice a high low) none = refl
 varies (Choice c a d) none = refl
 
 -- and one that is
-pub fixed_bits : (i : Expression) (n : ℕ) → amount i ≡ Some n → (world : World) → (val world i).bits ≡ n
+pub fixed_bits : (i : Expression) (n : ℕ) → amount i ≡ Some n → (world : World) → (number_of world i).bits ≡ n
 fixed_bits (Constant c) n is world = cc
 fixed_bits (Register k) n is world = absurd cc
 fixed_bits (Element k i) n is world = absurd cc

@@ -14,7 +14,7 @@ use Rattle.hc_core.specs.Weight.{kind_length, is_constant, unary_weight, binary_
 use Rattle.hc_core.specs.declared.expr.UnOp.{UnOp}
 use Rattle.hc_core.specs.declared.expr.BinOp.{BinOp}
 use Rattle.hc_core.specs.declared.object.Kind.{Kind}
-use Rattle.hc_meaning.specs.Value.{World, words, val, typed, unary, binary, holds}
+use Rattle.hc_meaning.specs.Value.{World, words, number_of, typed, unary, binary, holds}
 use Rattle.hc_net.specs.Bits.{number}
 use Rattle.hc_net.specs.Circuit.{Circuit}
 use Rattle.hc_net.specs.Made.{Over, Adds, Makes}
@@ -25,7 +25,7 @@ use Rattle.hc_muldiv.proofs.Circuits.{All-left, All-right, Over-right, Makes-ove
 use Rattle.hc_value.specs.Elements.{element_gates, fixed_nets}
 use Rattle.hc_value.specs.Moves.{amount, constant_nets, move_of, moved_nets}
 use Rattle.hc_value.specs.Objects.{nets_of, AreNets, HasConstants}
-use Rattle.hc_value.specs.Operands.{number_of, MakesUnary, MakesBinary, CanValue, IsValue}
+use Rattle.hc_value.specs.Operands.{number_on, MakesUnary, MakesBinary, CanValue, IsValue}
 use Rattle.hc_bits.specs.Elements.{element_nets}
 use Rattle.hc_value.specs.Reads.{HasNets, read_nets, reached, Reads, Holds, MakesValue}
 use Rattle.hc_value.specs.declared.moved.Move.{Move}
@@ -170,7 +170,7 @@ element_value kinds at old mid new k i x z sound has other index width sign made
       width = width;
       signed = sign;
       made = Makes-holds (Makes-last first made over) (omega (arith, own, most, weight)) (λ v both w same low high reads.
-          let at_index : number (map v x.nets) ≡ (val w i).bits = ap (λ m. m.bits) (both.0 w same low high reads.1) in
+          let at_index : number (map v x.nets) ≡ (number_of w i).bits = ap (λ m. m.bits) (both.0 w same low high reads.1) in
           object_held kinds k z.nets v w _ width same
           (both.1 ∙ ap (λ l. number (map v (element_nets (kind_width (slice_get l k)) (nets_of at k) (number (map v x.nets))))) (sym same)
           ∙ reads.0 (number (map v x.nets)) ∙ ap (λ j. slice_index_or (words w.store k) j 0) at_index));
@@ -207,10 +207,10 @@ binary_value kinds at old mid last new op a b x y z first second none sign own =
       signed = sign ∙ ap (group_sign (group_of op)) first.signed;
       made = Makes-holds (Makes-last both own.made both.reach) (omega (arith, weight)) (λ v h w same low high reads.
           ap (λ s. held (group_sign (group_of op) s) v z.nets) (sym first.signed) ∙ h.1
-          ∙ ap (λ s. binary op (held s v x.nets) (number_of v y)) first.signed
-          ∙ ap (λ n. binary op n (number_of v y)) (h.0.0 w same low high reads.0)
-          ∙ ap (λ s. binary op (val w a) (held s v y.nets)) second.signed
-          ∙ ap (λ n. binary op (val w a) n) (h.0.1 w same low high reads.1));
+          ∙ ap (λ s. binary op (held s v x.nets) (number_on v y)) first.signed
+          ∙ ap (λ n. binary op n (number_on v y)) (h.0.0 w same low high reads.0)
+          ∙ ap (λ s. binary op (number_of w a) (held s v y.nets)) second.signed
+          ∙ ap (λ n. binary op (number_of w a) n) (h.0.1 w same low high reads.1));
     }
 
 pub moved_value : (kinds : List Kind) (at : ObjectNets) (old new : Circuit) (op : BinOp) (a b : Expression) (by : Move) (x z : Operand) → AreSound kinds → HasSomeType kinds (Binary op a b)
@@ -237,7 +237,7 @@ moved_value kinds at old new op a b by x z sound has there moves first is sign =
           (λ v h w same low high reads.
           ap (λ s. held s v (moved_nets at.zero by x)) (move.facts.signed (sign_of kinds a) ∙ sym first.signed)
           ∙ held_now v low ∙ ap (λ s. moved_number by (held s v x.nets)) first.signed ∙ ap (moved_number by) (h w same low high reads.0)
-          ∙ sym (move.facts.is (val w a) (val w b) (move.bits w)));
+          ∙ sym (move.facts.is (number_of w a) (number_of w b) (move.bits w)));
     })
 
 pub slice_value : (kinds : List Kind) (at : ObjectNets) (old new : Circuit) (a : Expression) (high low : ℕ) (x z : Operand) → HasSomeType kinds (Slice a high low)
@@ -279,7 +279,7 @@ choice_value kinds at old mid last near new c a b p x y z has condition first se
       made = Makes-holds (Makes-last all own all.reach) (omega (arith, c_width, a_width)) (λ v h w same low high reads.
           h.1 (sign_of kinds c) (sign_of kinds a)
           ∙ ap (λ n. if holds n then held (sign_of kinds a) v x.nets else held (sign_of kinds a) v y.nets) (h.0.0 w same low high reads.0)
-          ∙ ap (λ n. if holds (val w c) then n else held (sign_of kinds a) v y.nets) (h.0.1.0 w same low high reads.1.0)
-          ∙ ap (λ s. if holds (val w c) then val w a else held s v y.nets) (sym types.signed)
-          ∙ ap (λ n. if holds (val w c) then val w a else n) (h.0.1.1 w same low high reads.1.1));
+          ∙ ap (λ n. if holds (number_of w c) then n else held (sign_of kinds a) v y.nets) (h.0.1.0 w same low high reads.1.0)
+          ∙ ap (λ s. if holds (number_of w c) then number_of w a else held s v y.nets) (sym types.signed)
+          ∙ ap (λ n. if holds (number_of w c) then number_of w a else n) (h.0.1.1 w same low high reads.1.1));
     }

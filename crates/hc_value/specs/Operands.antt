@@ -18,8 +18,8 @@ use Rattle.hc_value.specs.declared.objects.ObjectNets.{ObjectNets}
 use Rattle.hc_value.specs.declared.operand.Operand.{Operand}
 
 -- the number that an operand holds, by the bit of each net
-abbrev pub number_of : (ℕ → Bool) → Operand → Number
-number_of v x = held x.signed v x.nets
+abbrev pub number_on : (ℕ → Bool) → Operand → Number
+number_on v x = held x.signed v x.nets
 
 -- two operands of one type
 pub record Alike (x y : Operand) : Type 0 where
@@ -43,13 +43,13 @@ Fits Logic x y = Unit {0}
 pub record MakesUnary (op : UnOp) (x : Operand) (old new : Circuit) (z : Operand) : Type 0 where
   pub width : length z.nets ≡ unary_width op (length x.nets)
   pub signed : z.signed ≡ unary_sign op x.signed
-  pub made : Makes (unary_weight op (length x.nets)) x.nets old new z.nets (λ v. number_of v z ≡ unary op (number_of v x))
+  pub made : Makes (unary_weight op (length x.nets)) x.nets old new z.nets (λ v. number_on v z ≡ unary op (number_on v x))
 
 -- the circuit of an operator between two operands, of which the second is no constant that counts
 pub record MakesBinary (op : BinOp) (x y : Operand) (old new : Circuit) (z : List ℕ) : Type 0 where
   pub width : (n : ℕ) → length z ≡ group_width (group_of op) (length x.nets) (length y.nets) n
   pub made : Makes (binary_weight op false (length x.nets) (length y.nets)) (x.nets ++ y.nets) old new z
-      (λ v. held (group_sign (group_of op) x.signed) v z ≡ binary op (number_of v x) (number_of v y))
+      (λ v. held (group_sign (group_of op) x.signed) v z ≡ binary op (number_on v x) (number_on v y))
 
 -- an expression for whose circuit all is there: its type, the nets that it reads, and room for its gates
 pub record CanValue (kinds : List Kind) (at : ObjectNets) (c : Circuit) (e : Expression) : Type 0 where

@@ -4,7 +4,7 @@ use Rattle.hc_core.specs.Program.{Expression, Constant, Register, Element, Word,
 use Rattle.hc_core.specs.Typed.{kind_width, sign_of}
 use Rattle.hc_core.specs.Weight.{kind_length, expression_weight}
 use Rattle.hc_core.specs.declared.object.Kind.{Kind}
-use Rattle.hc_meaning.specs.Value.{World, words, val}
+use Rattle.hc_meaning.specs.Value.{World, words, number_of}
 use Rattle.hc_net.specs.Bits.{number}
 use Rattle.hc_net.specs.Circuit.{Circuit}
 use Rattle.hc_net.specs.Made.{Makes}
@@ -48,12 +48,12 @@ reached at e = at.zero ∷ at.one ∷ read_nets at e
 -- input, each element of an array (outside of it 0), and the word that is read of a RAM or ROM.
 abbrev pub Reads : World → ObjectNets → (ℕ → Bool) → Expression → Type 0
 Reads w at v (Constant c) = Unit {0}
-Reads w at v (Register k) = number (map v (nets_of at k)) ≡ (val w (Register k)).bits
+Reads w at v (Register k) = number (map v (nets_of at k)) ≡ (number_of w (Register k)).bits
 Reads w at v (Element k i) =
     ((j : ℕ) → number (map v (element_nets (kind_width (slice_get w.kinds k)) (nets_of at k) j)) ≡ slice_index_or (words w.store k) j 0) × Reads w at v i
-Reads w at v (Word k i) = number (map v (nets_of at k)) ≡ (val w (Word k i)).bits
-Reads w at v (Signal k) = number (map v (nets_of at k)) ≡ (val w (Signal k)).bits
-Reads w at v (Input k) = number (map v (nets_of at k)) ≡ (val w (Input k)).bits
+Reads w at v (Word k i) = number (map v (nets_of at k)) ≡ (number_of w (Word k i)).bits
+Reads w at v (Signal k) = number (map v (nets_of at k)) ≡ (number_of w (Signal k)).bits
+Reads w at v (Input k) = number (map v (nets_of at k)) ≡ (number_of w (Input k)).bits
 Reads w at v (Unary op a) = Reads w at v a
 Reads w at v (Binary op a b) = Reads w at v a × Reads w at v b
 Reads w at v (Slice a high low) = Reads w at v a
@@ -62,7 +62,7 @@ Reads w at v (Choice c a b) = Reads w at v c × (Reads w at v a × Reads w at v 
 -- the nets hold the number of an expression in each world in which the objects are worth what their nets say
 abbrev pub Holds : List Kind → ObjectNets → Expression → List ℕ → (ℕ → Bool) → Type 0
 Holds kinds at e nets v =
-    (w : World) → w.kinds ≡ kinds → v at.zero ≡ false → v at.one ≡ true → Reads w at v e → held (sign_of kinds e) v nets ≡ val w e
+    (w : World) → w.kinds ≡ kinds → v at.zero ≡ false → v at.one ≡ true → Reads w at v e → held (sign_of kinds e) v nets ≡ number_of w e
 
 -- A circuit for the number of an expression, of at most as many gates as it weighs.
 abbrev pub MakesValue : List Kind → ObjectNets → Expression → Circuit → Circuit → List ℕ → Type 0
