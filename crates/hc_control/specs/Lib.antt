@@ -1,0 +1,14 @@
+pub mod Token
+pub mod Lists
+pub mod Built
+pub mod Weighs
+pub mod Starts
+pub mod Right
+pub mod Building
+pub mod Conditions
+pub mod Selecting
+pub mod Taking
+pub mod Actions
+pub mod Listing
+pub mod Uses
+pub mod Controlled
