@@ -18,7 +18,8 @@ use Rattle.hc_net.specs.declared.node.Node.{Node}
 use Rattle.hc_net.specs.declared.node.Node.TheVariants.{Input, Flop, Wire, Gate}
 use Rattle.hc_value.specs.Objects.{nets_of}
 use Rattle.hc_value.specs.declared.objects.ObjectNets.{ObjectNets}
-use Rattle.hc_build.specs.Objects.{net_count, word_flops, words_flops, object_nodes, nodes_from, nets_from}
+use Rattle.hc_control.specs.Right.{net_count}
+use Rattle.hc_build.specs.Objects.{output_wire, word_flops, words_flops, object_nodes, nodes_from, nets_from}
 use Rattle.hc_build.specs.Sources.{IsSourceOf, is_open, bare, is_placeholder, CanRead, ReadsFirst, CanConnect}
 use Rattle.hc_build.proofs.Placing.{total, length-words, length-padded, length-object, length-nodes, length-nets, kind_at}
 
@@ -211,7 +212,7 @@ object_unfed k inputs n (kind.Output w s pins value) source i is plain inside = 
 object_undriven : (k inputs n : ℕ) (kind : Kind) (source : List ℕ) (i : ℕ) → IsSourceOf n kind source → is_placeholder kind ≡ true → i < length source → IsUndriven (node_at (object_nodes k inputs kind) i)
 object_undriven k inputs n (kind.Output w s pins value) source i is placed inside =
     let count = is.count in
-    subst (λ (x : Node). IsUndriven x) (sym (get_or-replicate w i (Wire 0 None) _ (omega arith))) tt
+    subst (λ (x : Node). IsUndriven x) (sym (get_or-replicate w i output_wire _ (omega arith))) tt
 object_undriven k inputs n (kind.Reg w s init) source i is placed inside = absurd (let e : false ≡ true = placed in cc)
 object_undriven k inputs n (kind.Array w s m init) source i is placed inside = absurd (let e : false ≡ true = placed in cc)
 object_undriven k inputs n (kind.Ram w s m init) source i is placed inside = absurd (let e : false ≡ true = placed in cc)

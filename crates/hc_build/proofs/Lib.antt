@@ -1,15 +1,13 @@
-pub mod ActionLists
 pub mod Adding
 pub mod Connecting
 pub mod FormsPassed
 pub mod Making
 pub mod Meaning
 pub mod MeaningEdge
+pub mod MeaningFront
 pub mod MeaningLists
-pub mod MeaningReads
 pub mod MeaningStores
 pub mod MeaningWrites
-pub mod Nets
 pub mod Placing
 pub mod Program
 pub mod SourcesMade
@@ -25,8 +23,5 @@ pub mod StructureRuns
 pub mod StructureSealed
 pub mod StructureStages
 pub mod StructureWithin
-pub mod Tokens
-pub mod UsesAdded
 pub mod UsesGates
-pub mod UsesIndex
 pub mod Weights

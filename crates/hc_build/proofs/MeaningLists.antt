@@ -1,33 +1,18 @@
 -- Elements and objects by their places in lists.
-use Rattle.std.proofs.Common.{◌≡◌, ◌≤◌, ℕ, zero, suc, ◌+◌, ◌*◌, List, [], ◌∷◌, length, map, take, drop, get_or, Bool, Some, ap, sym, ◌∙◌, arith}
+use Rattle.std.proofs.Common.{◌≡◌, ℕ, zero, suc, ◌+◌, ◌*◌, List, [], ◌∷◌, length, map, take, drop, get_or, Bool, Some, ap, sym, ◌∙◌}
 use Rattle.std.specs.Prelude.{slice_get}
-use Rattle.std.proofs.lemmas.Nat.{mul-le}
-use Rattle.std.proofs.lemmas.List.{take-map, drop-map, take_all, drop_all}
+use Rattle.std.proofs.lemmas.List.{take-map, drop-map}
 use Rattle.std.proofs.lemmas.List.FromFn.{length-range_with_len}
 use Rattle.hc_core.specs.declared.object.Kind.{Kind}
 use Rattle.hc_bits.specs.Elements.{element_nets}
-use Rattle.hc_build.specs.Objects.{net_count, nets_from}
-
--- ---- elements
+use Rattle.hc_control.specs.Right.{net_count}
+use Rattle.hc_build.specs.Objects.{nets_from}
 
 -- elements of two lists of nets that hold the same bits
 pub element_same : (f g : ℕ → Bool) (w : ℕ) (a b : List ℕ) (j : ℕ) → map f a ≡ map g b → map f (element_nets w a j) ≡ map g (element_nets w b j)
 element_same f g w a b j same =
     sym (take-map f w (drop (j * w) a)) ∙ ap (take w) (sym (drop-map f (j * w) a)) ∙ ap (λ (l : List Bool). take w (drop (j * w) l)) same
     ∙ ap (take w) (drop-map g (j * w) b) ∙ take-map g w (drop (j * w) b)
-
--- element 0 of the nets of one number is all of them
-pub element_whole : (w : ℕ) (nets : List ℕ) → length nets ≡ w → element_nets w nets 0 ≡ nets
-element_whole w nets size = ap (λ k. take w (drop k nets)) (let e : 0 * w ≡ 0 = omega arith in e) ∙ take_all w nets (omega (arith, size))
-
--- an element outside has no nets
-pub element_outside : (n w j : ℕ) (nets : List ℕ) → length nets ≡ n * w → n ≤ j → element_nets w nets j ≡ []
-element_outside n w j nets size high =
-    let rows : n * w ≤ j * w = mul-le n w j w high (omega arith) in
-    let none : drop (j * w) nets ≡ [] = drop_all (j * w) nets (omega (arith, size, rows)) in
-    take_all w (drop (j * w) nets) (omega (arith, ap length none)) ∙ none
-
--- ---- objects
 
 -- an object has as many nets as its kind says
 pub nets_count : (base k : ℕ) (kinds : List Kind) (kind : Kind) → slice_get kinds k ≡ Some kind → length (get_or (nets_from base kinds) k []) ≡ net_count kind

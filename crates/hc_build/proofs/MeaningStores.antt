@@ -1,16 +1,12 @@
--- What an action leaves of a store.
-use Rattle.std.proofs.Common.{◌≡◌, ◌≢◌, ◌<◌, ℕ, zero, suc, List, [], ◌∷◌, length, Option, Some, None, refl, ap, sym, ◌∙◌, subst, inl, inr, arith, get_or-set_same, get_or-set_other, length-set}
-use Rattle.std.specs.Prelude.{slice_get, slice_set, slice_index_or}
+-- What is written to a store.
+use Rattle.std.proofs.Common.{◌≡◌, ◌≢◌, ◌<◌, ℕ, zero, suc, List, [], ◌∷◌, length, Some, refl, ap, sym, ◌∙◌, subst, inl, inr, arith, get_or-set_same, get_or-set_other, length-set}
+use Rattle.std.specs.Prelude.{◌⊎◌, slice_get, slice_set, slice_index_or}
 use Rattle.std.proofs.lemmas.Bool.{cases_lt}
 use Rattle.std.proofs.lemmas.Bool.Decides.{eqb_tells}
 use Rattle.std.proofs.lemmas.List.{get_or_past, length-map}
-use Rattle.hc_core.specs.Program.{Expression, ToRegister, ToElement, ToWord, ToSignal}
 use Rattle.hc_core.specs.declared.object.Kind.{Kind}
-use Rattle.hc_meaning.specs.Residual.{Action, Assign, Delay, Send, Receive}
-use Rattle.hc_meaning.specs.Value.{Store, World, words, with_word, val, first_words, initial}
-use Rattle.hc_meaning.specs.Clock.{Write, written_at, after}
-use Rattle.hc_meaning.specs.Straight.{acted}
-use Rattle.hc_build.proofs.MeaningWrites.{IsOther}
+use Rattle.hc_meaning.specs.Value.{Store, words, with_word, first_words, initial}
+use Rattle.hc_meaning.specs.Clock.{Write, after}
 
 -- ---- the shape of a store
 
@@ -45,56 +41,61 @@ shape_written store k i bits = record { size = length-set store k word; each = e
       | inr apart ↦ ap length (get_or-set_other store k j (slice_set (words store k) i bits) [] apart.1)
     ]
 
-shape_after : (writes : List Write) (store : Store) → SameShape (after writes store) store
+pub shape_after : (writes : List Write) (store : Store) → SameShape (after writes store) store
 shape_after [] store = shape_self store
 shape_after (x ∷ rest) store =
     shape_then (after rest (with_word store x.object x.index x.bits)) (with_word store x.object x.index x.bits) store
     (shape_after rest (with_word store x.object x.index x.bits)) (shape_written store x.object x.index x.bits)
 
-pub shape_acted : (w : World) (o : Option Action) (store : Store) → SameShape (acted w o store) store
-shape_acted w None store = shape_self store
-shape_acted w (Some (Assign t e)) store = shape_after (written_at w t (val w e).bits) store
-shape_acted w (Some Delay) store = shape_self store
-shape_acted w (Some (Send chan e)) store = shape_self store
-shape_acted w (Some (Receive chan t)) store = shape_self store
+-- ---- one element
 
--- ---- what is written
+-- an element that is there
+pub record IsInside (store : Store) (k e : ℕ) : Type 0 where
+  pub object : k < length store
+  pub element : e < length (words store k)
 
-other_word : (store : Store) (j k i bits : ℕ) → j ≢ k → words (with_word store j i bits) k ≡ words store k
-other_word store j k i bits apart = get_or-set_other store j k (slice_set (words store j) i bits) [] (λ e. apart (sym e))
+pub inside_written : (store : Store) (x : Write) (k e : ℕ) → IsInside store k e → IsInside (with_word store x.object x.index x.bits) k e
+inside_written store x k e inside =
+    let same = shape_written store x.object x.index x.bits in
+    let object = inside.object in
+    let element = inside.element in
+    let size = same.size in
+    let each = same.each k in
+    record { object = omega (arith, object, size); element = omega (arith, element, each) }
+
+-- the write is to another object, or to another element
+abbrev pub IsElsewhere : ℕ → ℕ → Write → Type 0
+IsElsewhere k e x = (x.object ≢ k) ⊎ (x.index ≢ e)
 
 -- an object that isn't written stays as it is
-pub acted_other : (w : World) (o : Option Action) (store : Store) (k : ℕ) → IsOther k o → words (acted w o store) k ≡ words store k
-acted_other w None store k other = refl
-acted_other w (Some (Assign (ToRegister j) e)) store k other = other_word store j k 0 (val w e).bits other
-acted_other w (Some (Assign (ToElement j i) e)) store k other = other_word store j k (val w i).bits (val w e).bits other
-acted_other w (Some (Assign (ToWord j i) e)) store k other = other_word store j k (val w i).bits (val w e).bits other
-acted_other w (Some (Assign (ToSignal j) e)) store k other = refl
-acted_other w (Some Delay) store k other = refl
-acted_other w (Some (Send chan e)) store k other = refl
-acted_other w (Some (Receive chan t)) store k other = refl
+other_word : (store : Store) (j k i bits : ℕ) → j ≢ k → words (with_word store j i bits) k ≡ words store k
+other_word store j k i bits apart = get_or-set_other store j k (slice_set (words store j) i bits) [] (λ e. apart (sym e))
 
 -- what is written of an object that is there
 own_word : (store : Store) (k i bits : ℕ) → k < length store → words (with_word store k i bits) k ≡ slice_set (words store k) i bits
 own_word store k i bits inside = get_or-set_same store k (slice_set (words store k) i bits) [] inside
 
-pub acted_register : (w : World) (k : ℕ) (e : Expression) (store : Store) → k < length store → 0 < length (words store k)
-    → slice_index_or (words (acted w (Some (Assign (ToRegister k) e)) store) k) 0 0 ≡ (val w e).bits
-acted_register w k e store inside some =
-    ap (λ l. slice_index_or l 0 0) (own_word store k 0 (val w e).bits inside) ∙ get_or-set_same (words store k) 0 (val w e).bits 0 some
+beside : (store : Store) (k e i bits : ℕ) → k < length store → i ≢ e → slice_index_or (words (with_word store k i bits) k) e 0 ≡ slice_index_or (words store k) e 0
+beside store k e i bits inside apart = ap (λ l. slice_index_or l e 0) (own_word store k i bits inside) ∙ get_or-set_other (words store k) i e bits 0 (λ same. apart (sym same))
 
-pub acted_element : (w : World) (k j : ℕ) (i e : Expression) (store : Store) → k < length store → j < length (words store k) → (val w i).bits ≡ j
-    → slice_index_or (words (acted w (Some (Assign (ToElement k i) e)) store) k) j 0 ≡ (val w e).bits
-acted_element w k j i e store inside low is =
-    ap (λ l. slice_index_or l j 0) (own_word store k (val w i).bits (val w e).bits inside)
-    ∙ ap (λ n. slice_index_or (slice_set (words store k) n (val w e).bits) j 0) is
-    ∙ get_or-set_same (words store k) j (val w e).bits 0 low
+pub kept_word : (store : Store) (x : Write) (k e : ℕ) → IsInside store k e → IsElsewhere k e x
+    → slice_index_or (words (with_word store x.object x.index x.bits) k) e 0 ≡ slice_index_or (words store k) e 0
+kept_word store x k e inside (inl apart) = ap (λ l. slice_index_or l e 0) (other_word store x.object k x.index x.bits apart)
+kept_word store x k e inside (inr apart) = elim (eqb_tells x.object k) [
+  | inl alike ↦
+      subst (λ j. slice_index_or (words (with_word store j x.index x.bits) k) e 0 ≡ slice_index_or (words store k) e 0) (sym alike.1)
+      (beside store k e x.index x.bits inside.object apart)
+  | inr other ↦ ap (λ l. slice_index_or l e 0) (other_word store x.object k x.index x.bits other.1)
+]
 
-pub acted_beside : (w : World) (k j : ℕ) (i e : Expression) (store : Store) → k < length store → (val w i).bits ≢ j
-    → slice_index_or (words (acted w (Some (Assign (ToElement k i) e)) store) k) j 0 ≡ slice_index_or (words store k) j 0
-acted_beside w k j i e store inside apart =
-    ap (λ l. slice_index_or l j 0) (own_word store k (val w i).bits (val w e).bits inside)
-    ∙ get_or-set_other (words store k) (val w i).bits j (val w e).bits 0 (λ same. apart (sym same))
+written : (store : Store) (k e bits : ℕ) → IsInside store k e → slice_index_or (words (with_word store k e bits) k) e 0 ≡ bits
+written store k e bits inside = ap (λ l. slice_index_or l e 0) (own_word store k e bits inside.object) ∙ get_or-set_same (words store k) e bits 0 inside.element
+
+pub written_word : (store : Store) (x : Write) (k e : ℕ) → IsInside store k e → x.object ≡ k → x.index ≡ e
+    → slice_index_or (words (with_word store x.object x.index x.bits) k) e 0 ≡ x.bits
+written_word store x k e inside object index =
+    ap (λ j. slice_index_or (words (with_word store j x.index x.bits) k) e 0) object ∙ ap (λ i. slice_index_or (words (with_word store k i x.bits) k) e 0) index
+    ∙ written store k e x.bits inside
 
 -- ---- what objects hold at the start
 

@@ -30,7 +30,8 @@ use Rattle.hc_net.specs.declared.net.Port.TheVariants as port
 use Rattle.hc_net.specs.declared.node.Node.{Node}
 use Rattle.hc_net.specs.declared.node.Node.TheVariants.{Input, Flop, Wire}
 use Rattle.hc_rules.specs.Weight.{most_weight}
-use Rattle.hc_build.specs.Objects.{net_count, word_flops, words_flops, object_nodes, nodes_from, nets_from, ports_by, ports_from, AddsNodes, CanPlace, AddsObject}
+use Rattle.hc_control.specs.Right.{net_count}
+use Rattle.hc_build.specs.Objects.{output_wire, word_flops, words_flops, object_nodes, nodes_from, nets_from, ports_by, ports_from, AddsNodes, CanPlace, AddsObject}
 use Rattle.hc_build.proofs.Adding.{adds_size, adds_append, adds_as}
 
 -- ---- words
@@ -120,7 +121,7 @@ length-object k inputs (kind.Rom w s n init) = refl
 length-object k inputs (kind.Signal w s unset) = refl
 length-object k inputs (kind.Chan w s queue) = refl
 length-object k inputs (kind.Input w s pins) = length-map-range_with_len (λ i. Input inputs i) 0 w
-length-object k inputs (kind.Output w s pins value) = length-replicate w (Wire 0 None)
+length-object k inputs (kind.Output w s pins value) = length-replicate w output_wire
 
 pub length-nodes : (k inputs : ℕ) (kinds : List Kind) → length (nodes_from k inputs kinds) ≡ total kinds
 length-nodes k inputs [] = refl
@@ -300,9 +301,9 @@ adds_array k w n s init given o nets old new is same m =
     adds_object k o (kind.Array w s n init) (words_flops k 0 w (padded n (bits_of given))) old new nets is m (ap (λ l. words_flops k 0 w (padded n (bits_of l))) same) refl
 
 pub adds_output : (k : ℕ) (o : Object) (w : ℕ) (s : Bool) (pins labels : List (List ℕ)) (value : Expr) (name : List ℕ) (old mid new : Circuit) (nets : List ℕ) → o.kind ≡ kind.Output w s pins value
-    → name ≡ o.name → labels ≡ pins → w ≤ 128 → AddsNodes (replicate w (Wire 0 None)) [] old mid nets → new ≡ with_output mid name labels nets → AddsObject k o old new nets
+    → name ≡ o.name → labels ≡ pins → w ≤ 128 → AddsNodes (replicate w output_wire) [] old mid nets → new ≡ with_output mid name labels nets → AddsObject k o old new nets
 adds_output k o w s pins labels value name old mid new nets is named same narrow m adds =
-    let size : length (replicate w (Wire 0 None)) ≡ w = length-replicate w (Wire 0 None) in
+    let size : length (replicate w output_wire) ≡ w = length-replicate w output_wire in
     let nets_are : nets ≡ range_with_len (length old.nodes) w = m.nets_are ∙ ap (range_with_len (length old.nodes)) size in
     let count : length nets ≡ w = ap length nets_are ∙ length-range_with_len (length old.nodes) w in
     let width : min (length nets) (2 ^ 32 - 1) ≡ w = omega arith in

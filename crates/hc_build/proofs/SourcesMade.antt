@@ -5,6 +5,7 @@ use Rattle.std.specs.List.{sum_by}
 use Rattle.std.specs.Option.{option_map}
 use Rattle.std.proofs.lemmas.Bool.{cases_lt}
 use Rattle.std.proofs.lemmas.List.{get_or_append_left, get_or_push, get_or_read, length-map, length_push, take_all}
+use Rattle.std.proofs.lemmas.List.Elements.{All-weaker}
 use Rattle.std.proofs.lemmas.List.Sums.{sum_by_more, sum_by_more_le}
 use Rattle.std.proofs.lemmas.Nat.{div-mul-add}
 use Rattle.std.proofs.lemmas.Option.{same_Some, get_or_from_slice_get, slice_get-get_or, slice_get-map, slice_get_within}
@@ -24,24 +25,31 @@ use Rattle.hc_net.specs.Circuit.{Circuit}
 use Rattle.hc_net.specs.Made.{Adds, Always, Makes}
 use Rattle.hc_net.specs.MadeLemmas.{Adds-none, Adds-most, Adds-then, Adds-room, Adds-there, Adds-over, Adds-always}
 use Rattle.hc_net.specs.declared.node.Node.{Node}
-use Rattle.hc_store.specs.Takes.{Takes, AreValues, hold_gates}
+use Rattle.hc_store.specs.Takes.{Takes, AreValues, IsValue, hold_gates}
 use Rattle.hc_store.specs.Arrays.{TakesEach, array_gates}
 use Rattle.hc_value.specs.Objects.{nets_of, AreNets}
 use Rattle.hc_value.specs.Reads.{Holds, MakesValue}
 use Rattle.hc_value.specs.declared.objects.ObjectNets.{ObjectNets}
-use Rattle.hc_build.specs.Built.{is_built_expression, is_built_kind}
-use Rattle.hc_build.specs.Uses.{AreThere, HasPlaces, next_gates, all_next_gates}
+use Rattle.hc_control.specs.Built.{is_built_expression}
+use Rattle.hc_control.specs.Uses.{AreThere}
+use Rattle.hc_control.specs.Right.{HasPlaces}
+use Rattle.hc_build.specs.Built.{is_built_kind}
+use Rattle.hc_build.specs.Uses.{next_gates, all_next_gates}
 use Rattle.hc_build.specs.Sources.{IsSource, MakesSource, MakesSources, output_gates}
-use Rattle.hc_build.specs.declared.uses.ObjectUses.{ObjectUses}
-use Rattle.hc_build.proofs.Nets.{has_nets}
+use Rattle.hc_control.specs.declared.uses.ObjectUses.{ObjectUses}
+use Rattle.hc_control.proofs.UsesIndex.{Ready}
+use Rattle.hc_control.proofs.UsesNets.{has_nets}
 use Rattle.hc_build.proofs.UsesGates.{AllThere, next_kept}
-use Rattle.hc_build.proofs.UsesIndex.{Ready}
 
 -- ---- one object
 
 -- the nets of an object, as the code finds them
 pub object_nets : (at : ObjectNets) (list : List (List ℕ)) (k : ℕ) (nets : List ℕ) → list ≡ at.objects → k < length list → nets ≡ get_or list k nets → nets ≡ nets_of at k
 object_nets at list k nets same within is = get_or_read list k nets within is [] ∙ ap (λ l. slice_index_or l k []) same
+
+-- the nets of uses as a store wants them
+are_values : (n size : ℕ) (lists : List (List ℕ)) → All (AreNets n size) lists → AreValues n size lists
+are_values n size lists all = All-weaker (AreNets n size) (IsValue n size) (λ nets are. record { width = are.count; there = are.there }) lists all
 
 -- what the circuit of a register's next bits wants
 pub record RegisterReady (c : Circuit) (q enables : List ℕ) (values : List (List ℕ)) : Type 0 where
@@ -61,7 +69,7 @@ register_ready kinds at c k w s init x u q values is nets same at_k places there
     let gates : hold_gates (length q) (length u.enables) ≡ hold_gates w (length u.enables) = ap (λ n. hold_gates n (length u.enables)) size in
     record {
       present = subst (λ l. All (λ j. j < length c.nodes) l) (sym nets) place.there;
-      each_value = subst (λ n. AreValues (length c.nodes) n values) (sym size) (subst (λ l. AreValues (length c.nodes) w l) (sym same) own.values);
+      each_value = subst (λ n. AreValues (length c.nodes) n values) (sym size) (subst (λ l. AreValues (length c.nodes) w l) (sym same) (are_values (length c.nodes) w u.values own.values));
       writes = ap length same ∙ own.value_count;
       room = omega (arith, free, gates);
     }
@@ -113,8 +121,8 @@ array_ready kinds at c k w n s init x u q indexes values is nets index_is value_
       elements = subst (λ m. 1 ≤ m) (sym count) some;
       whole = size ∙ ap (λ m. m * w) (sym count);
       present = subst (λ l. All (λ j. j < length c.nodes) l) (sym nets) place.there;
-      each_index = subst (λ m. AreValues (length c.nodes) (index_width m) indexes) (sym count) (subst (λ l. AreValues (length c.nodes) (index_width n) l) (sym index_is) own.indexes);
-      each_value = subst (λ l. AreValues (length c.nodes) w l) (sym value_is) own.values;
+      each_index = subst (λ m. AreValues (length c.nodes) (index_width m) indexes) (sym count) (subst (λ l. AreValues (length c.nodes) (index_width n) l) (sym index_is) (are_values (length c.nodes) (index_width n) u.indexes own.indexes));
+      each_value = subst (λ l. AreValues (length c.nodes) w l) (sym value_is) (are_values (length c.nodes) w u.values own.values);
       index_writes = ap length index_is ∙ own.index_count;
       value_writes = ap length value_is ∙ own.value_count;
       room = subst (λ m. length c.nodes + m < 2 ^ 32) (sym gates) (let z : array_gates c.nodes n w u.indexes + 0 ≡ array_gates c.nodes n w u.indexes = add-zero _ in subst (λ m. length c.nodes + m < 2 ^ 32) z free);

@@ -1,10 +1,10 @@
 -- The finished circuit: each net of an object reads its source, and all else is as it was made.
-use Rattle.std.proofs.Common.{◌≡◌, ◌<◌, ◌≤◌, ℕ, ◌+◌, ◌-◌, ◌*◌, List, [], ◌∷◌, ◌++◌, length, map, Bool, false, Some, None, refl, sym, ap, ◌∙◌, subst, ⊎_elim, arith}
+use Rattle.std.proofs.Common.{◌≡◌, ◌<◌, ◌≤◌, ℕ, zero, suc, ◌+◌, ◌-◌, ◌*◌, ◌^◌, List, [], ◌∷◌, ◌++◌, length, map, Bool, false, Option, Some, None, refl, sym, ap, ◌∙◌, subst, ⊎_elim, arith}
 use Rattle.std.specs.Prelude.{slice_get, slice_index, slice_index_or, All}
-use Rattle.std.specs.List.{range_with_len, sum_by}
+use Rattle.std.specs.List.{sum_by}
 use Rattle.std.proofs.lemmas.Bool.{cases_lt}
 use Rattle.std.proofs.lemmas.List.{get_or-append_right, get_or-replicate, length-map, length-append}
-use Rattle.std.proofs.lemmas.List.Elements.{All-nil, All-cons, All-append, All-weaker}
+use Rattle.std.proofs.lemmas.List.Elements.{All-nil, All-cons, All-append}
 use Rattle.std.proofs.lemmas.List.FromFn.{get_or-map-range_with_len}
 use Rattle.std.proofs.lemmas.Option.{slice_get_within}
 use Rattle.hc_num.specs.Number.{Number}
@@ -13,7 +13,8 @@ use Rattle.hc_core.specs.declared.object.Kind.{Kind}
 use Rattle.hc_core.specs.declared.object.Kind.TheVariants as kind
 use Rattle.hc_meaning.specs.Value.{first_words, inputs_before}
 use Rattle.hc_net.specs.Circuit.{Circuit, IsUnfed, node_at, reading}
-use Rattle.hc_net.specs.Made.{IsGate}
+use Rattle.hc_net.specs.Seal as seal
+use Rattle.hc_net.specs.Seal.{Within}
 use Rattle.hc_net.specs.declared.net.FlopName.{FlopName}
 use Rattle.hc_net.specs.declared.gate.GateKind.{GateKind}
 use Rattle.hc_net.specs.declared.gate.GateKind.TheVariants as gate
@@ -21,7 +22,9 @@ use Rattle.hc_net.specs.declared.node.Node.{Node}
 use Rattle.hc_net.specs.declared.node.Node.TheVariants.{Input, Flop, Wire, Gate}
 use Rattle.hc_value.specs.Objects.{nets_of, AreNets}
 use Rattle.hc_value.specs.declared.objects.ObjectNets.{ObjectNets}
-use Rattle.hc_build.specs.Objects.{net_count, object_nodes, nodes_from, nets_from, token_node, token_nodes}
+use Rattle.hc_control.specs.Building.{IsControlNode}
+use Rattle.hc_control.specs.Right.{net_count}
+use Rattle.hc_build.specs.Objects.{output_wire, object_nodes, nodes_from, nets_from}
 use Rattle.hc_build.specs.Sources.{IsSourceOf, Connects, bare, is_open}
 use Rattle.hc_build.proofs.Placing.{length-object}
 use Rattle.hc_build.proofs.StructureNodes.{length-nodes_from, base_of, net_is, stands, node_is, words_unfed}
@@ -29,33 +32,37 @@ use Rattle.hc_build.proofs.StructureStages.{constants, nets_placed, HasGates}
 
 -- ---- nodes that are done
 
--- a gate, or a flip-flop that is fed
-abbrev pub IsDone : Node → Type 0
-IsDone (Input p i) = ⊥
-IsDone (Flop name init None) = ⊥
-IsDone (Flop name init (Some d)) = Unit {0}
-IsDone (Wire rank from) = ⊥
-IsDone (Gate g a b) = Unit {0}
+constants_done : (nodes : List Node) → All (IsControlNode nodes) constants
+constants_done nodes =
+    All-cons (IsControlNode nodes) (Gate gate.Zero 0 0) (Gate gate.One 0 0 ∷ []) tt (All-cons (IsControlNode nodes) (Gate gate.One 0 0) [] tt (All-nil (IsControlNode nodes)))
 
-gate_done : (x : Node) → IsGate x → IsDone x
-gate_done (Input p i) is = absurd is
-gate_done (Flop name init d) is = absurd is
-gate_done (Wire rank from) is = absurd is
-gate_done (Gate g a b) is = tt
+done_closed : (nodes : List Node) (x : Node) → IsControlNode nodes x → is_open x ≡ false
+done_closed nodes (Input p i) is = absurd is
+done_closed nodes (Flop name init None) is = absurd is
+done_closed nodes (Flop name init (Some d)) is = refl
+done_closed nodes (Wire rank None) is = absurd is
+done_closed nodes (Wire rank (Some d)) is = refl
+done_closed nodes (Gate g a b) is = refl
 
-tokens_done : (low first : ℕ) (xs : List ℕ) → All IsDone (map (token_node low first) xs)
-tokens_done low first [] = All-nil IsDone
-tokens_done low first (x ∷ xs) = All-cons IsDone (token_node low first x) (map (token_node low first) xs) tt (tokens_done low first xs)
+done_moved : (old new : List Node) → ((k : ℕ) → Within old 0 k → Within new 0 k) → (x : Node) → IsControlNode old x → IsControlNode new x
+done_moved old new moved (Input p i) is = absurd is
+done_moved old new moved (Flop name init None) is = absurd is
+done_moved old new moved (Flop name init (Some d)) is = tt
+done_moved old new moved (Wire rank None) is = absurd is
+done_moved old new moved (Wire rank (Some d)) is = (is.0, moved d is.1)
+done_moved old new moved (Gate g a b) is = tt
 
-constants_done : All IsDone constants
-constants_done = All-cons IsDone (Gate gate.Zero 0 0) (Gate gate.One 0 0 ∷ []) tt (All-cons IsDone (Gate gate.One 0 0) [] tt (All-nil IsDone))
+-- a node's bare form stands in its place among the bare forms of all
+bare_at : (nodes : List Node) (n : ℕ) → node_at (map bare nodes) n ≡ bare (node_at nodes n)
+bare_at [] n = refl
+bare_at (x ∷ nodes) zero = refl
+bare_at (x ∷ nodes) (suc n) = bare_at nodes n
 
-done_closed : (x : Node) → IsDone x → is_open x ≡ false
-done_closed (Input p i) is = absurd is
-done_closed (Flop name init None) is = absurd is
-done_closed (Flop name init (Some d)) is = refl
-done_closed (Wire rank from) is = absurd is
-done_closed (Gate g a b) is = refl
+bare_flop : (x : Node) (name : FlopName) (init : Bool) → bare x ≡ Flop name init None → (e : Option ℕ) × (x ≡ Flop name init e)
+bare_flop (Input p i) name init is = absurd cc
+bare_flop (Flop n b d) name init is = let same : n ≡ name = cc in let also : b ≡ init = cc in (d, cc)
+bare_flop (Wire rank from) name init is = absurd cc
+bare_flop (Gate g a b) name init is = absurd cc
 
 reading_closed : (d : ℕ) (x : Node) → is_open (reading d x) ≡ false
 reading_closed d (Input p i) = refl
@@ -78,14 +85,11 @@ reading_fed d (Gate g a b) unfed = absurd unfed
 
 -- ---- the circuit
 
--- The objects stand in a circuit with the constants, tokens and gates behind them, and were connected with their sources.
+-- The objects stand in a circuit with the constants and with control and gates behind them, and were connected with their sources.
 pub record Joined (kinds : List Kind) (at : ObjectNets) (sources : List (List ℕ)) (old last : Circuit) : Type 0 where
-  pub low : ℕ
-  pub first : ℕ
-  pub count : ℕ
-  pub gates : List Node
-  pub nodes : old.nodes ≡ nodes_from 0 0 kinds ++ (constants ++ (token_nodes low first count ++ gates))
-  pub only : All IsGate gates
+  pub behind : List Node
+  pub nodes : old.nodes ≡ nodes_from 0 0 kinds ++ (constants ++ behind)
+  pub parts : All (IsControlNode old.nodes) behind
   pub objects : at.objects ≡ nets_from 0 kinds
   pub stand : HasGates old.nodes at
   pub sized : (k : ℕ) (x : Kind) → slice_get kinds k ≡ Some x → IsSourceOf (length old.nodes) x (slice_index_or sources k [])
@@ -110,7 +114,7 @@ module _ {kinds : List Kind} {at : ObjectNets} {sources : List (List ℕ)} {old 
   pub objects_size : sum_by net_count kinds ≤ length old.nodes
   objects_size =
       let all = ap length j.nodes in
-      let parts = length-append (nodes_from 0 0 kinds) (constants ++ (token_nodes j.low j.first j.count ++ j.gates)) in
+      let parts = length-append (nodes_from 0 0 kinds) (constants ++ j.behind) in
       let own = length-nodes_from 0 0 kinds in
       omega arith
 
@@ -127,7 +131,7 @@ module _ {kinds : List Kind} {at : ObjectNets} {sources : List (List ℕ)} {old 
   own_node k i x is low =
       ap (node_at old.nodes) (own_net k i x is low)
       ∙ ap (λ l. node_at l (base_of kinds k + i)) j.nodes
-      ∙ node_is kinds (constants ++ (token_nodes j.low j.first j.count ++ j.gates)) k i x is low
+      ∙ node_is kinds (constants ++ j.behind) k i x is low
 
   -- and after it, where the object reads a source
   pub source_length : (k : ℕ) (x : Kind) → slice_get kinds k ≡ Some x → ReadsSource x → length (slice_index_or sources k []) ≡ net_count x
@@ -141,23 +145,43 @@ module _ {kinds : List Kind} {at : ObjectNets} {sources : List (List ℕ)} {old 
       j.connects.read k i inside (omega arith)
       ∙ ap (reading (slice_index (slice_index_or sources k []) i)) (own_node k i x is low)
 
-  -- a node behind the objects is a gate or a token, and stays
-  behind_done : (n : ℕ) → sum_by net_count kinds ≤ n → n < length old.nodes → IsDone (node_at old.nodes n)
+  -- gates stay
+  pub gate_last : (n : ℕ) (g : GateKind) (a b : ℕ) → node_at old.nodes n ≡ Gate g a b → node_at last.nodes n ≡ Gate g a b
+  gate_last n g a b is = j.connects.kept n (ap is_open is) ∙ is
+
+  -- flip-flops stay, but for what they read
+  flop_last : (n : ℕ) (name : FlopName) (init : Bool) (d : Option ℕ) → node_at old.nodes n ≡ Flop name init d → (e : Option ℕ) × (node_at last.nodes n ≡ Flop name init e)
+  flop_last n name init d is = bare_flop (node_at last.nodes n) name init (sym (bare_at last.nodes n) ∙ ap (λ l. node_at l n) j.connects.bare ∙ bare_at old.nodes n ∙ ap bare is)
+
+  -- what reaches no placeholder still reaches none
+  within_last : (k : ℕ) → Within old.nodes 0 k → Within last.nodes 0 k
+  within_last _ (seal.input k p i is) = seal.input k p i (j.connects.kept k (ap is_open is) ∙ is)
+  within_last _ (seal.flop k name init d is) = let f = flop_last k name init d is in seal.flop k name init f.0 f.1
+  within_last _ (seal.wire k r from is lt) = absurd (omega (arith, lt))
+  within_last _ (seal.zero k a b is) = seal.zero k a b (gate_last k gate.Zero a b is)
+  within_last _ (seal.one k a b is) = seal.one k a b (gate_last k gate.One a b is)
+  within_last _ (seal.negation k a b is x) = seal.negation k a b (gate_last k gate.Not a b is) (within_last a x)
+  within_last _ (seal.conjunction k a b is x y) = seal.conjunction k a b (gate_last k gate.And a b is) (within_last a x) (within_last b y)
+  within_last _ (seal.disjunction k a b is x y) = seal.disjunction k a b (gate_last k gate.Or a b is) (within_last a x) (within_last b y)
+  within_last _ (seal.exclusion k a b is x y) = seal.exclusion k a b (gate_last k gate.Xor a b is) (within_last a x) (within_last b y)
+
+  -- a node behind the objects is done, and stays
+  behind_done : (n : ℕ) → sum_by net_count kinds ≤ n → n < length old.nodes → IsControlNode old.nodes (node_at old.nodes n)
   behind_done n past inside =
-      let tokens : List Node = token_nodes j.low j.first j.count in
-      let more : List Node = constants ++ (tokens ++ j.gates) in
+      let more : List Node = constants ++ j.behind in
       let own = length-nodes_from 0 0 kinds in
       let all = ap length j.nodes in
       let parts = length-append (nodes_from 0 0 kinds) more in
-      let done : All IsDone more = All-append IsDone constants (tokens ++ j.gates) constants_done (All-append IsDone tokens j.gates (tokens_done j.low j.first (range_with_len 0 j.count)) (All-weaker IsGate IsDone gate_done j.gates j.only)) in
+      let done : All (IsControlNode old.nodes) more = All-append (IsControlNode old.nodes) constants j.behind (constants_done old.nodes) j.parts in
       let at_end : node_at old.nodes n ≡ node_at more (n - sum_by net_count kinds) = ap (λ l. node_at l n) j.nodes ∙ get_or-append_right (nodes_from 0 0 kinds) more (sum_by net_count kinds) n (Wire 0 None) own past in
-      subst IsDone (sym at_end) (done (n - sum_by net_count kinds) (Wire 0 None) (omega arith))
+      subst (IsControlNode old.nodes) (sym at_end) (done (n - sum_by net_count kinds) (Wire 0 None) (omega arith))
 
-  pub behind_last : (n : ℕ) → sum_by net_count kinds ≤ n → n < length last.nodes → IsDone (node_at last.nodes n)
+  pub behind_last : (n : ℕ) → sum_by net_count kinds ≤ n → n < length last.nodes → IsControlNode last.nodes (node_at last.nodes n)
   behind_last n past inside =
       let size = same_size in
       let done = behind_done n past (omega arith) in
-      subst IsDone (sym (j.connects.kept n (done_closed (node_at old.nodes n) done))) done
+      subst (IsControlNode last.nodes) (sym (j.connects.kept n (done_closed old.nodes (node_at old.nodes n) done)))
+      (done_moved old.nodes last.nodes within_last (node_at old.nodes n) done)
 
   -- an input stays
   pub input_last : (k i w : ℕ) (s : Bool) (pins : List (List ℕ)) → slice_get kinds k ≡ Some (kind.Input w s pins) → i < w
@@ -170,10 +194,10 @@ module _ {kinds : List Kind} {at : ObjectNets} {sources : List (List ℕ)} {old 
 
   -- an output is driven
   pub output_last : (k i w : ℕ) (s : Bool) (pins : List (List ℕ)) (value : Expr) → slice_get kinds k ≡ Some (kind.Output w s pins value) → i < w
-      → node_at last.nodes (slice_index (nets_of at k) i) ≡ Wire 0 (Some (slice_index (slice_index_or sources k []) i))
+      → node_at last.nodes (slice_index (nets_of at k) i) ≡ Wire (2 ^ 32 - 1) (Some (slice_index (slice_index_or sources k []) i))
   output_last k i w s pins value is low =
       last_node k i (kind.Output w s pins value) is (output w s pins value) low
-      ∙ ap (reading (slice_index (slice_index_or sources k []) i)) (get_or-replicate w i (Wire 0 None) (Wire 0 None) low)
+      ∙ ap (reading (slice_index (slice_index_or sources k []) i)) (get_or-replicate w i output_wire (Wire 0 None) low)
 
   -- a register or an array is fed
   pub register_last : (k i w : ℕ) (s : Bool) (init : Number) → slice_get kinds k ≡ Some (kind.Reg w s init) → i < w
@@ -194,41 +218,38 @@ module _ {kinds : List Kind} {at : ObjectNets} {sources : List (List ℕ)} {old 
       let unfed : IsUnfed (node_at (object_nodes k (inputs_before kinds k) x) i) = words_unfed k 0 w (first_words x) i (Wire 0 None) (omega arith) in
       subst (λ (m : Node). IsFed m d) (sym (last_node k i x is (array w s n init) low)) (reading_fed d _ unfed)
 
-  -- gates stay
-  pub gate_last : (n : ℕ) (g : GateKind) (a b : ℕ) → node_at old.nodes n ≡ Gate g a b → node_at last.nodes n ≡ Gate g a b
-  gate_last n g a b is = j.connects.kept n (ap is_open is) ∙ is
-
 -- ---- each node of it
 
--- What a node of the finished circuit is: a gate or a fed flip-flop, an input, or a placeholder of an output that is driven.
-pub data Finished (kinds : List Kind) (at : ObjectNets) (sources : List (List ℕ)) : Node → Type 0 where
-  done : (x : Node) → IsDone x → Finished kinds at sources x
-  input : (p i : ℕ) → Finished kinds at sources (Input p i)
+-- What a node of the finished circuit is: part of the control or a gate, an object's flip-flop, an input, or a placeholder of an
+-- output that is driven.
+pub data Finished (kinds : List Kind) (nodes : List Node) (sources : List (List ℕ)) : Node → Type 0 where
+  done : (x : Node) → IsControlNode nodes x → Finished kinds nodes sources x
+  input : (p i : ℕ) → Finished kinds nodes sources (Input p i)
   driven : (k i w : ℕ) (s : Bool) (pins : List (List ℕ)) (value : Expr) → slice_get kinds k ≡ Some (kind.Output w s pins value) → i < w
-      → Finished kinds at sources (Wire 0 (Some (slice_index (slice_index_or sources k []) i)))
+      → Finished kinds nodes sources (Wire (2 ^ 32 - 1) (Some (slice_index (slice_index_or sources k []) i)))
 
-fed_done : (x : Node) (d : ℕ) → IsFed x d → IsDone x
-fed_done x d fed = rw fed.is tt
+fed_done : (nodes : List Node) (x : Node) (d : ℕ) → IsFed x d → IsControlNode nodes x
+fed_done nodes x d fed = rw fed.is tt
 
 finished_object : {kinds : List Kind} {at : ObjectNets} {sources : List (List ℕ)} {old last : Circuit} → Joined kinds at sources old last
-    → (k i : ℕ) (x : Kind) → slice_get kinds k ≡ Some x → i < net_count x → Finished kinds at sources (node_at last.nodes (slice_index (nets_of at k) i))
-finished_object j k i (kind.Reg w s init) is low = done _ (fed_done _ _ (register_last j k i w s init is low))
-finished_object j k i (kind.Array w s n init) is low = done _ (fed_done _ _ (array_last j k i w n s init is low))
+    → (k i : ℕ) (x : Kind) → slice_get kinds k ≡ Some x → i < net_count x → Finished kinds last.nodes sources (node_at last.nodes (slice_index (nets_of at k) i))
+finished_object {last = last} j k i (kind.Reg w s init) is low = done _ (fed_done last.nodes _ _ (register_last j k i w s init is low))
+finished_object {last = last} j k i (kind.Array w s n init) is low = done _ (fed_done last.nodes _ _ (array_last j k i w n s init is low))
 finished_object j k i (kind.Ram w s n init) is low = absurd (omega arith)
 finished_object j k i (kind.Rom w s n init) is low = absurd (omega arith)
 finished_object j k i (kind.Signal w s unset) is low = absurd (omega arith)
 finished_object j k i (kind.Chan w s queue) is low = absurd (omega arith)
-finished_object {kinds} {at} {sources} j k i (kind.Input w s pins) is low =
-    subst (λ (n : Node). Finished kinds at sources n) (sym (input_last j k i w s pins is low)) (input (inputs_before kinds k) i)
-finished_object {kinds} {at} {sources} j k i (kind.Output w s pins value) is low =
-    subst (λ (n : Node). Finished kinds at sources n) (sym (output_last j k i w s pins value is low)) (driven k i w s pins value is low)
+finished_object {kinds} {at} {sources} {last = last} j k i (kind.Input w s pins) is low =
+    subst (λ (n : Node). Finished kinds last.nodes sources n) (sym (input_last j k i w s pins is low)) (input (inputs_before kinds k) i)
+finished_object {kinds} {at} {sources} {last = last} j k i (kind.Output w s pins value) is low =
+    subst (λ (n : Node). Finished kinds last.nodes sources n) (sym (output_last j k i w s pins value is low)) (driven k i w s pins value is low)
 
 pub finished : {kinds : List Kind} {at : ObjectNets} {sources : List (List ℕ)} {old last : Circuit} → Joined kinds at sources old last
-    → (n : ℕ) → n < length last.nodes → Finished kinds at sources (node_at last.nodes n)
+    → (n : ℕ) → n < length last.nodes → Finished kinds last.nodes sources (node_at last.nodes n)
 finished {kinds} {at} {sources} {last = last} j n inside = ⊎_elim
     (λ own.
     let s = stands kinds n own in
     let net : slice_index (nets_of at s.object) s.place ≡ n = own_net j s.object s.place s.kind_of s.is s.within ∙ sym s.net in
-    subst (λ m. Finished kinds at sources (node_at last.nodes m)) net (finished_object j s.object s.place s.kind_of s.is s.within))
+    subst (λ m. Finished kinds last.nodes sources (node_at last.nodes m)) net (finished_object j s.object s.place s.kind_of s.is s.within))
     (λ past. done _ (behind_last j n past inside))
     (cases_lt n (sum_by net_count kinds))

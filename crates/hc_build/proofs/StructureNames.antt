@@ -1,8 +1,9 @@
 -- The flip-flops of objects and tokens: their names differ, and how many there are. The gates, of which there are few.
-use Rattle.std.proofs.Common.{◌≡◌, ◌≢◌, ◌<◌, ◌≤◌, ℕ, zero, suc, ◌+◌, ◌*◌, ◌⊎◌, List, [], ◌∷◌, ◌++◌, length, map, Bool, Some, None, refl, sym, ap, ◌∙◌, subst, inl, inr, arith, append_assoc, length-append}
+use Rattle.std.proofs.Common.{◌≡◌, ◌≢◌, ◌<◌, ◌≤◌, ℕ, zero, suc, ◌+◌, ◌*◌, ◌⊎◌, List, [], ◌∷◌, ◌++◌, length, map, Bool, true, false, Some, None, refl, sym, ap, ◌∙◌, subst, inl, inr, arith, append_assoc, length-append}
 use Rattle.std.specs.Prelude.{slice_get, replicate, All, if◌then◌else◌}
 use Rattle.std.specs.List.{range_with_len, sum_by}
 use Rattle.std.proofs.lemmas.List.Elements.{All-head, All-tail}
+use Rattle.std.proofs.lemmas.List.FromFn.{length-map-range_with_len}
 use Rattle.std.proofs.lemmas.List.Sums.{sum_by-cons}
 use Rattle.hc_core.specs.Weight.{kind_flops}
 use Rattle.hc_core.specs.declared.object.Kind.{Kind}
@@ -15,7 +16,8 @@ use Rattle.hc_net.specs.declared.net.FlopName.{FlopName}
 use Rattle.hc_net.specs.declared.net.FlopName.TheVariants.{Bit, Token}
 use Rattle.hc_net.specs.declared.node.Node.{Node}
 use Rattle.hc_net.specs.declared.node.Node.TheVariants.{Input, Flop, Wire, Gate}
-use Rattle.hc_build.specs.Objects.{word_flops, words_flops, object_nodes, nodes_from, token_node, token_nodes}
+use Rattle.hc_token.specs.Control.{tokens_from}
+use Rattle.hc_build.specs.Objects.{output_wire, word_flops, words_flops, object_nodes, nodes_from}
 use Rattle.hc_build.specs.Sources.{bare}
 use Rattle.hc_build.proofs.Placing.{length-words, length-padded}
 use Rattle.hc_build.proofs.StructureNodes.{words_unfed}
@@ -92,11 +94,11 @@ inputs_gates : (p : ℕ) (xs : List ℕ) → gates_of (map (λ i. Input p i) xs)
 inputs_gates p [] = refl
 inputs_gates p (x ∷ xs) = inputs_gates p xs
 
-wires_flops : (w : ℕ) → flops_of (replicate w (Wire 0 None)) ≡ []
+wires_flops : (w : ℕ) → flops_of (replicate w output_wire) ≡ []
 wires_flops zero = refl
 wires_flops (suc w) = wires_flops w
 
-wires_gates : (w : ℕ) → gates_of (replicate w (Wire 0 None)) ≡ 0
+wires_gates : (w : ℕ) → gates_of (replicate w output_wire) ≡ 0
 wires_gates zero = refl
 wires_gates (suc w) = wires_gates w
 
@@ -146,19 +148,8 @@ objects_gates k inputs (x ∷ kinds) =
     ∙ ap (λ n. n + gates_of (nodes_from (k + 1) next kinds)) (object_gates k inputs x)
     ∙ ap (λ n. 0 + n) (objects_gates (k + 1) next kinds)
 
-tokens_count : (low first : ℕ) (xs : List ℕ) → length (flops_of (map (token_node low first) xs)) ≡ length xs
-tokens_count low first [] = refl
-tokens_count low first (x ∷ xs) = ap suc (tokens_count low first xs)
-
-tokens_none : (low first : ℕ) (xs : List ℕ) → gates_of (map (token_node low first) xs) ≡ 0
-tokens_none low first [] = refl
-tokens_none low first (x ∷ xs) = tokens_none low first xs
-
-pub tokens_flops : (low first : ℕ) (xs : List ℕ) → length (flops_of (map (token_node low first) xs)) ≡ length xs
-tokens_flops low first xs = tokens_count low first xs
-
-pub tokens_gates : (low first count : ℕ) → gates_of (token_nodes low first count) ≡ 0
-tokens_gates low first count = tokens_none low first (range_with_len 0 count)
+pub tokens_many : (token count : ℕ) → length (tokens_from token count) ≡ count
+tokens_many token count = length-map-range_with_len (λ i. (Token (token + i), false)) 0 count
 
 -- ---- names that differ
 
@@ -229,12 +220,23 @@ bit_other k a b (Bit object i) lt (inl high) = λ same. let e : k ≡ object = c
 bit_other k a b (Bit object i) lt (inr from) = λ same. let e : a ≡ i = cc in omega (arith, from.1)
 bit_other k a b (Token t) lt from = λ same. absurd cc
 
-tokens_distinct : (low first a m : ℕ) (more : List Node) → flops_of more ≡ [] → Names (FromToken a) (map (token_node low first) (range_with_len a m) ++ more)
-tokens_distinct low first a zero more none = rw none (tt, tt)
-tokens_distinct low first a (suc m) more none =
-    let ih = tokens_distinct low first (a + 1) m more none in
-    let rest : List (FlopName × Bool) = flops_of (map (token_node low first) (range_with_len (a + 1) m) ++ more) in
-    ((each_weaker (FromToken (a + 1)) (λ n. Token a ≢ n) (token_other a) rest ih.1, ih.0), (omega arith, each_weaker (FromToken (a + 1)) (FromToken a) (token_later a) rest ih.1))
+-- tokens in a row
+row_distinct : (token a m : ℕ) → Distinct (map (λ i. (Token (token + i), false)) (range_with_len a m)) × EachName (FromToken (token + a)) (map (λ i. (Token (token + i), false)) (range_with_len a m))
+row_distinct token a zero = (tt, tt)
+row_distinct token a (suc m) =
+    let rest : List (FlopName × Bool) = map (λ i. (Token (token + i), false)) (range_with_len (a + 1) m) in
+    let next : token + (a + 1) ≡ token + a + 1 = omega arith in
+    let ih = row_distinct token (a + 1) m in
+    let later : EachName (FromToken (token + a + 1)) rest = subst (λ n. EachName (FromToken n) rest) next ih.1 in
+    ((each_weaker (FromToken (token + a + 1)) (λ n. Token (token + a) ≢ n) (token_other (token + a)) rest later, ih.0), (omega arith, each_weaker (FromToken (token + a + 1)) (FromToken (token + a)) (token_later (token + a)) rest later))
+
+-- the first token, and those behind it
+tokens_distinct : (count : ℕ) (nodes : List Node) → flops_of nodes ≡ (Token 0, true) ∷ tokens_from 1 count → Names (FromToken 0) nodes
+tokens_distinct count nodes are =
+    let rest : List (FlopName × Bool) = tokens_from 1 count in
+    let row = row_distinct 1 0 count in
+    subst (λ (l : List (FlopName × Bool)). Distinct l × EachName (FromToken 0) l) (sym are)
+    ((each_weaker (FromToken (0 + 1)) (λ n. Token 0 ≢ n) (token_other 0) rest row.1, row.0), (omega arith, each_weaker (FromToken (0 + 1)) (FromToken 0) (token_later 0) rest row.1))
 
 bits_distinct : (k from bits a n : ℕ) (more : List Node) → Names (FromBit k (from + (a + n))) more
     → Names (FromBit k (from + a)) (map (λ i. Flop (Bit k (from + i)) (bit bits i) None) (range_with_len a n) ++ more)
@@ -272,7 +274,7 @@ object_distinct k inputs (kind.Rom w s n init) more later = none_distinct k [] m
 object_distinct k inputs (kind.Signal w s unset) more later = none_distinct k [] more refl later
 object_distinct k inputs (kind.Chan w s queue) more later = none_distinct k [] more refl later
 object_distinct k inputs (kind.Input w s pins) more later = none_distinct k (input_nodes inputs w) more (inputs_flops inputs (range_with_len 0 w)) later
-object_distinct k inputs (kind.Output w s pins value) more later = none_distinct k (replicate w (Wire 0 None)) more (wires_flops w) later
+object_distinct k inputs (kind.Output w s pins value) more later = none_distinct k (replicate w output_wire) more (wires_flops w) later
 
 objects_distinct : (k inputs : ℕ) (kinds : List Kind) (more : List Node) → Names (FromToken 0) more → Names (FromBit k 0) (nodes_from k inputs kinds ++ more)
 objects_distinct k inputs [] more later = (later.0, each_weaker (FromToken 0) (FromBit k 0) (bit_of_token k 0) (flops_of more) later.1)
@@ -282,14 +284,7 @@ objects_distinct k inputs (x ∷ kinds) more later =
     subst (λ (l : List Node). Names (FromBit k 0) l) (sym (append_assoc (object_nodes k inputs x) others more))
     (object_distinct k inputs x (others ++ more) (objects_distinct (k + 1) next kinds more later))
 
--- the flip-flops of objects, tokens and gates
-pub distinct_names : (kinds : List Kind) (low first count : ℕ) (constants gates : List Node) → flops_of constants ≡ [] → All IsGate gates
-    → (i j : ℕ) (f g : FlopName × Bool) → i < j
-    → slice_get (flops_of (nodes_from 0 0 kinds ++ (constants ++ (token_nodes low first count ++ gates)))) i ≡ Some f
-    → slice_get (flops_of (nodes_from 0 0 kinds ++ (constants ++ (token_nodes low first count ++ gates)))) j ≡ Some g → f.0 ≢ g.0
-distinct_names kinds low first count constants gates none only i j f g lower at_i at_j =
-    let more : List Node = token_nodes low first count ++ gates in
-    let tokens = tokens_distinct low first 0 count gates (flops_of-gates gates only) in
-    let same : flops_of (constants ++ more) ≡ flops_of more = flops_of-append constants more ∙ ap (λ l. l ++ flops_of more) none in
-    let behind : Names (FromToken 0) (constants ++ more) = subst (λ (l : List (FlopName × Bool)). Distinct l × EachName (FromToken 0) l) (sym same) tokens in
-    distinct_at _ i j f g lower (objects_distinct 0 0 kinds (constants ++ more) behind).0 at_i at_j
+-- the flip-flops of objects, and of the tokens behind them
+pub distinct_names : (kinds : List Kind) (count : ℕ) (more : List Node) → flops_of more ≡ (Token 0, true) ∷ tokens_from 1 count
+    → (i j : ℕ) (f g : FlopName × Bool) → i < j → slice_get (flops_of (nodes_from 0 0 kinds ++ more)) i ≡ Some f → slice_get (flops_of (nodes_from 0 0 kinds ++ more)) j ≡ Some g → f.0 ≢ g.0
+distinct_names kinds count more tokens i j f g lower at_i at_j = distinct_at _ i j f g lower (objects_distinct 0 0 kinds more (tokens_distinct count more tokens)).0 at_i at_j

@@ -10,9 +10,9 @@ use Rattle.hc_core.specs.declared.object.Core.{Core}
 use Rattle.hc_core.specs.declared.object.Kind.{Kind}
 use Rattle.hc_core.specs.declared.object.Kind.TheVariants as kind
 use Rattle.hc_core.specs.declared.object.Object.{Object}
-use Rattle.hc_meaning.specs.Clock.{own_words, output_of}
+use Rattle.hc_meaning.specs.Clock.{register_cells, output_of}
 use Rattle.hc_meaning.specs.Run.{Run, world_of}
-use Rattle.hc_meaning.specs.Value.{World, words, val}
+use Rattle.hc_meaning.specs.Value.{World, words, number_of}
 use Rattle.hc_net.specs.Bits.{bit, number}
 use Rattle.hc_net.specs.Circuit.{Circuit, History, flops_of}
 use Rattle.hc_net.specs.Run.{Trace, HoldsBit, net_bit, values_at, state_at, output_numbers}
@@ -26,9 +26,10 @@ use Rattle.hc_net.specs.declared.net.RawNet.{RawNet}
 use Rattle.hc_bits.specs.Elements.{element_nets}
 use Rattle.hc_value.specs.Objects.{nets_of}
 use Rattle.hc_value.specs.declared.objects.ObjectNets.{ObjectNets}
+use Rattle.hc_control.specs.Right.{net_count}
 use Rattle.hc_build.specs.Implements.{Implements, IsNetlistOf, shape_of}
-use Rattle.hc_build.specs.Objects.{net_count, ports_by, ports_from}
-use Rattle.hc_build.specs.declared.uses.ObjectUses.{ObjectUses}
+use Rattle.hc_build.specs.Objects.{ports_by, ports_from}
+use Rattle.hc_control.specs.declared.uses.ObjectUses.{ObjectUses}
 use Rattle.hc_build.proofs.Stages.{Stages}
 use Rattle.hc_build.proofs.StructureNodes.{base_of, nets_are}
 use Rattle.hc_build.proofs.StructureSealed.{same_clock, same_placed_shapes, last_ports, few_flops, few_gates}
@@ -37,10 +38,10 @@ use Rattle.hc_build.proofs.StructureBits.{bit-number}
 
 -- The nets hold what a run holds at each edge, and show what its outputs are in each clock.
 pub record Follows (core : Core) (at : ObjectNets) (trace : Trace) (h : History) (n : ℕ) (run : Run core trace n) : Type 0 where
-  pub holds : (t : ℕ) → t ≤ n → (k e : ℕ) → e < own_words (slice_get (kinds_of core.objects) k)
+  pub holds : (t : ℕ) → t ≤ n → (k e : ℕ) → e < register_cells (slice_get (kinds_of core.objects) k)
       → number (map (h t) (element_nets (kind_width (slice_get (kinds_of core.objects) k)) (nets_of at k) e)) ≡ slice_index_or (words (run.state t).store k) e 0
   pub shows : (t : ℕ) (within : t < n) (k w : ℕ) (s : Bool) (pins : List (List ℕ)) (value : Expr) → slice_get (kinds_of core.objects) k ≡ Some (kind.Output w s pins value)
-      → number (map (h t) (nets_of at k)) ≡ (val (world_of (kinds_of core.objects) (trace t) (run.state t) (run.clock t within).instant) (expression value)).bits
+      → number (map (h t) (nets_of at k)) ≡ (number_of (world_of (kinds_of core.objects) (trace t) (run.state t) (run.clock t within).settled.instant) (expression value)).bits
 
 -- ---- the numbers of output ports
 
@@ -54,7 +55,7 @@ map_twice v place [] = refl
 map_twice v place (n ∷ nets) = ap (λ l. v (place n) ∷ l) (map_twice v place nets)
 
 number_by : (world : World) (v : ℕ → Bool) (place : ℕ → ℕ) (name : List ℕ) (base : ℕ) (x : Kind)
-    → ((w : ℕ) (s : Bool) (pins : List (List ℕ)) (value : Expr) → x ≡ kind.Output w s pins value → number (map (λ n. v (place n)) (range_with_len base w)) ≡ (val world (expression value)).bits)
+    → ((w : ℕ) (s : Bool) (pins : List (List ℕ)) (value : Expr) → x ≡ kind.Output w s pins value → number (map (λ n. v (place n)) (range_with_len base w)) ≡ (number_of world (expression value)).bits)
     → output_numbers (map (seal.placed place) (ports_by name base x)) v ≡ output_of world x
 number_by world v place name base (kind.Reg w s init) is = refl
 number_by world v place name base (kind.Array w s n init) is = refl
@@ -68,7 +69,7 @@ number_by world v place name base (kind.Output w s pins value) is =
 
 numbers_are : (world : World) (v : ℕ → Bool) (place : ℕ → ℕ) (base : ℕ) (objects : List Object)
     → ((k w : ℕ) (s : Bool) (pins : List (List ℕ)) (value : Expr) → slice_get (kinds_of objects) k ≡ Some (kind.Output w s pins value)
-    → number (map (λ n. v (place n)) (range_with_len (base + base_of (kinds_of objects) k) w)) ≡ (val world (expression value)).bits)
+    → number (map (λ n. v (place n)) (range_with_len (base + base_of (kinds_of objects) k) w)) ≡ (number_of world (expression value)).bits)
     → output_numbers (map (seal.placed place) (ports_from base objects)) v ≡ flat_map (output_of world) (kinds_of objects)
 numbers_are world v place base [] are = refl
 numbers_are world v place base (o ∷ objects) are =
@@ -84,13 +85,13 @@ numbers_are world v place base (o ∷ objects) are =
 
 -- ---- the netlist
 
-module _ {core : Core} {at : ObjectNets} {tokens : List ℕ} {uses : List ObjectUses} {sources : List (List ℕ)} {placed started used read last : Circuit} (s : Stages core at tokens uses sources placed started used read last) (raw : RawNet) (seals : Seals last raw) where
+module _ {core : Core} {at : ObjectNets} {uses : List ObjectUses} {sources : List (List ℕ)} {placed used read last : Circuit} (s : Stages core at uses sources placed used read last) (raw : RawNet) (seals : Seals last raw) where
   -- the bit of each net of the circuit in a run of the netlist
   abbrev pub history : Trace → History
   history trace = λ t k. net_bit (values_at raw trace t) (seals.place k)
 
   -- a flip-flop of the netlist holds each bit of a number on nets
-  holds_bit : (trace : Trace) (t k e i word : ℕ) → e < own_words (slice_get (kinds_of core.objects) k) → i < kind_width (slice_get (kinds_of core.objects) k)
+  holds_bit : (trace : Trace) (t k e i word : ℕ) → e < register_cells (slice_get (kinds_of core.objects) k) → i < kind_width (slice_get (kinds_of core.objects) k)
       → number (map (history trace t) (element_nets (kind_width (slice_get (kinds_of core.objects) k)) (nets_of at k) e)) ≡ word
       → HoldsBit raw.flops (state_at raw trace t) (Bit k (e * kind_width (slice_get (kinds_of core.objects) k) + i)) (bit word i)
   holds_bit trace t k e i word inside low is =
@@ -119,7 +120,7 @@ module _ {core : Core} {at : ObjectNets} {tokens : List ℕ} {uses : List Object
       bits = λ k e i inside low. holds_bit trace t k e i _ inside low ((follows trace n run).holds t le k e inside);
     };
     outputs = λ trace n run t within.
-        let world : World = world_of (kinds_of core.objects) (trace t) (run.state t) (run.clock t within).instant in
+        let world : World = world_of (kinds_of core.objects) (trace t) (run.state t) (run.clock t within).settled.instant in
         let v : ℕ → Bool = net_bit (values_at raw trace t) in
         let numbers : output_numbers (map (seal.placed seals.place) (ports_from 0 core.objects)) v ≡ flat_map (output_of world) (kinds_of core.objects) =
         numbers_are world v seals.place 0 core.objects (λ k w sign pins value is.

@@ -10,14 +10,15 @@ use Rattle.std.proofs.lemmas.List.FromFn.{get_or-range_with_len, get_or-map-rang
 use Rattle.hc_core.specs.Typed.{kind_width}
 use Rattle.hc_core.specs.declared.object.Kind.{Kind}
 use Rattle.hc_core.specs.declared.object.Kind.TheVariants as kind
-use Rattle.hc_meaning.specs.Clock.{own_words}
+use Rattle.hc_meaning.specs.Clock.{register_cells}
 use Rattle.hc_meaning.specs.Value.{bits_of, first_words, is_input, inputs_before}
 use Rattle.hc_net.specs.Bits.{bit}
 use Rattle.hc_net.specs.Circuit.{IsUnfed, node_at}
 use Rattle.hc_net.specs.declared.net.FlopName.TheVariants.{Bit}
 use Rattle.hc_net.specs.declared.node.Node.{Node}
 use Rattle.hc_net.specs.declared.node.Node.TheVariants.{Flop, Wire}
-use Rattle.hc_build.specs.Objects.{net_count, word_flops, words_flops, object_nodes, nodes_from, nets_from}
+use Rattle.hc_control.specs.Right.{net_count}
+use Rattle.hc_build.specs.Objects.{word_flops, words_flops, object_nodes, nodes_from, nets_from}
 use Rattle.hc_build.proofs.Placing.{length-padded, length-object}
 
 -- ---- how many there are
@@ -150,10 +151,10 @@ word_node k from w (bits ∷ rest) (suc e) i inside low =
 -- An object of flip-flops: its nodes, its first numbers and its bits.
 pub record Holder (k inputs : ℕ) (x : Kind) : Type 0 where
   pub nodes : object_nodes k inputs x ≡ words_flops k 0 (kind_width (Some x)) (first_words x)
-  pub words : length (first_words x) ≡ own_words (Some x)
-  pub bits : net_count x ≡ own_words (Some x) * kind_width (Some x)
+  pub words : length (first_words x) ≡ register_cells (Some x)
+  pub bits : net_count x ≡ register_cells (Some x) * kind_width (Some x)
 
-pub holder : (k inputs : ℕ) (x : Kind) → 0 < own_words (Some x) → Holder k inputs x
+pub holder : (k inputs : ℕ) (x : Kind) → 0 < register_cells (Some x) → Holder k inputs x
 holder k inputs (kind.Reg w s init) some = record { nodes = refl; words = refl; bits = omega arith }
 holder k inputs (kind.Array w s n init) some = record { nodes = refl; words = length-padded n (bits_of init); bits = refl }
 holder k inputs (kind.Ram w s n init) some = absurd (omega arith)

@@ -14,8 +14,9 @@ use Rattle.hc_net.specs.Seal.{placed}
 use Rattle.hc_net.specs.Valid.{HasSizes, PortHasSizes, port_name}
 use Rattle.hc_net.specs.declared.net.Port.{Port}
 use Rattle.hc_net.specs.declared.net.Port.TheVariants as port
+use Rattle.hc_control.specs.Right.{net_count}
 use Rattle.hc_build.specs.Implements.{Shape, shape_of, shapes_by, shapes_of}
-use Rattle.hc_build.specs.Objects.{net_count, ports_by, ports_from}
+use Rattle.hc_build.specs.Objects.{ports_by, ports_from}
 
 -- ---- shapes
 

@@ -1,19 +1,16 @@
--- What the nets of objects and tokens do in each history that explains the finished circuit.
-use Rattle.std.proofs.Common.{◌≡◌, ◌<◌, ℕ, zero, suc, ◌+◌, ◌-◌, ◌*◌, ◌^◌, List, [], ◌++◌, length, map, Bool, true, false, Option, Some, None, refl, sym, ap, ◌∙◌, subst, ⊎_elim, arith}
-use Rattle.std.proofs.lemmas.Bool.Decides.{eqb_tells}
-use Rattle.std.specs.Prelude.{slice_get, slice_index, slice_index_or, ◌==◌, if◌then◌else◌}
+-- What the nets of objects do in each history that explains the finished circuit.
+use Rattle.std.proofs.Common.{◌≡◌, ◌<◌, ℕ, zero, suc, ◌+◌, ◌-◌, ◌*◌, ◌^◌, List, [], length, map, Bool, true, false, Option, Some, None, refl, sym, ap, ◌∙◌, subst, arith}
+use Rattle.std.specs.Prelude.{slice_get, slice_index, slice_index_or}
 use Rattle.std.specs.List.{range_with_len}
-use Rattle.std.proofs.lemmas.List.{get_or-map, get_or_append_left, get_or-append-add, length-append}
-use Rattle.std.proofs.lemmas.List.FromFn.{get_or-range_with_len, get_or-map-range_with_len, length-map-range_with_len}
+use Rattle.std.proofs.lemmas.List.{get_or-map}
 use Rattle.std.proofs.lemmas.Option.{slice_get-get_or, slice_get_within, get_or_from_slice_get}
-use Rattle.hc_core.specs.Read.{statement}
 use Rattle.hc_core.specs.Sound.{IsKind}
 use Rattle.hc_core.specs.Typed.{kinds_of, kind_width}
 use Rattle.hc_core.specs.declared.expr.Expr.{Expr}
 use Rattle.hc_core.specs.declared.object.Core.{Core}
 use Rattle.hc_core.specs.declared.object.Kind.{Kind}
 use Rattle.hc_core.specs.declared.object.Kind.TheVariants as kind
-use Rattle.hc_meaning.specs.Clock.{own_words}
+use Rattle.hc_meaning.specs.Clock.{register_cells}
 use Rattle.hc_meaning.specs.Value.{words, initial, first_words, inputs_before}
 use Rattle.hc_net.specs.Bits.{bit, number}
 use Rattle.hc_net.specs.Circuit.{Circuit, History, Explains, Does, node_at, reading}
@@ -25,25 +22,22 @@ use Rattle.hc_net.specs.declared.node.Node.TheVariants.{Input, Flop, Wire, Gate}
 use Rattle.hc_bits.specs.Elements.{element_nets}
 use Rattle.hc_value.specs.Objects.{nets_of}
 use Rattle.hc_value.specs.declared.objects.ObjectNets.{ObjectNets}
-use Rattle.hc_build.specs.Objects.{net_count, token_node, token_nodes}
-use Rattle.hc_build.specs.Program.{actions_in}
-use Rattle.hc_build.specs.Runs.{ObjectsRun, TokensRun}
-use Rattle.hc_build.specs.Sources.{is_open}
-use Rattle.hc_build.specs.declared.uses.ObjectUses.{ObjectUses}
+use Rattle.hc_control.specs.Right.{net_count}
+use Rattle.hc_control.specs.declared.uses.ObjectUses.{ObjectUses}
+use Rattle.hc_build.specs.Runs.{ObjectsRun}
 use Rattle.hc_build.proofs.Stages.{Stages}
 use Rattle.hc_build.proofs.StructureNodes.{holder, word_node, bit_within}
-use Rattle.hc_build.proofs.StructureStages.{tokens_nodes, tokens_count}
 use Rattle.hc_build.proofs.StructureJoined.{Joined, IsFed, ReadsSource, register, array, output, same_size, own_nets, source_length, last_node, input_last, output_last, register_last, array_last, gate_last}
-use Rattle.hc_build.proofs.StructureSealed.{joined, added}
+use Rattle.hc_build.proofs.StructureSealed.{joined}
 use Rattle.hc_build.proofs.StructureBits.{number-bits, bits_below, array_below, same_maps, same_bits, element_net, element_size}
 
 -- ---- the flip-flop of each bit
 
-some_kind : (o : Option Kind) (e : ℕ) → e < own_words o → (x : Kind) × (o ≡ Some x)
+some_kind : (o : Option Kind) (e : ℕ) → e < register_cells o → (x : Kind) × (o ≡ Some x)
 some_kind None e inside = absurd (omega arith)
 some_kind (Some x) e inside = (x, refl)
 
-holds_reads : (x : Kind) → 0 < own_words (Some x) → ReadsSource x
+holds_reads : (x : Kind) → 0 < register_cells (Some x) → ReadsSource x
 holds_reads (kind.Reg w s init) some = register w s init
 holds_reads (kind.Array w s n init) some = array w s n init
 holds_reads (kind.Ram w s n init) some = absurd (omega arith)
@@ -53,7 +47,7 @@ holds_reads (kind.Chan w s queue) some = absurd (omega arith)
 holds_reads (kind.Input w s pins) some = absurd (omega arith)
 holds_reads (kind.Output w s pins value) some = absurd (omega arith)
 
-first_below : (kinds : List Kind) (x : Kind) (e : ℕ) → IsKind kinds x → e < own_words (Some x) → slice_index (first_words x) e < 2 ^ kind_width (Some x)
+first_below : (kinds : List Kind) (x : Kind) (e : ℕ) → IsKind kinds x → e < register_cells (Some x) → slice_index (first_words x) e < 2 ^ kind_width (Some x)
 first_below kinds (kind.Reg w s init) zero is inside = bits_below w s init is
 first_below kinds (kind.Reg w s init) (suc e) is inside = absurd (omega arith)
 first_below kinds (kind.Array w s n init) e is inside = array_below w s n init e is.typed
@@ -65,14 +59,14 @@ first_below kinds (kind.Input w s pins) e is inside = absurd (omega arith)
 first_below kinds (kind.Output w s pins value) e is inside = absurd (omega arith)
 
 module _ {kinds : List Kind} {at : ObjectNets} {sources : List (List ℕ)} {old last : Circuit} (j : Joined kinds at sources old last) where
-  bit_place : (k e i : ℕ) (x : Kind) → e < own_words (Some x) → i < kind_width (Some x) → e * kind_width (Some x) + i < net_count x
+  bit_place : (k e i : ℕ) (x : Kind) → e < register_cells (Some x) → i < kind_width (Some x) → e * kind_width (Some x) + i < net_count x
   bit_place k e i x inside low =
       let h = holder k 0 x (omega arith) in
       let bits = h.bits in
-      let within = bit_within (own_words (Some x)) (kind_width (Some x)) e i inside low in
+      let within = bit_within (register_cells (Some x)) (kind_width (Some x)) e i inside low in
       omega arith
 
-  bit_last : (k e i : ℕ) (x : Kind) → slice_get kinds k ≡ Some x → e < own_words (Some x) → i < kind_width (Some x)
+  bit_last : (k e i : ℕ) (x : Kind) → slice_get kinds k ≡ Some x → e < register_cells (Some x) → i < kind_width (Some x)
       → node_at last.nodes (slice_index (nets_of at k) (e * kind_width (Some x) + i))
       ≡ Flop (Bit k (e * kind_width (Some x) + i)) (bit (slice_index (first_words x) e) i) (Some (slice_index (slice_index_or sources k []) (e * kind_width (Some x) + i)))
   bit_last k e i x is inside low =
@@ -86,9 +80,9 @@ module _ {kinds : List Kind} {at : ObjectNets} {sources : List (List ℕ)} {old 
       ∙ ap (reading d) (word_node k 0 w (first_words x) e i (omega arith) low)
       ∙ ap (λ n. Flop (Bit k n) (bit (slice_index (first_words x) e) i) (Some d)) (let z : 0 + (e * w + i) ≡ e * w + i = omega arith in z)
 
-  element_long : (k e : ℕ) (x : Kind) → slice_get kinds k ≡ Some x → e < own_words (Some x) → length (element_nets (kind_width (Some x)) (nets_of at k) e) ≡ kind_width (Some x)
+  element_long : (k e : ℕ) (x : Kind) → slice_get kinds k ≡ Some x → e < register_cells (Some x) → length (element_nets (kind_width (Some x)) (nets_of at k) e) ≡ kind_width (Some x)
   element_long k e x is inside =
-      element_size (own_words (Some x)) (kind_width (Some x)) (nets_of at k) e ((own_nets j k x is).count ∙ (holder k 0 x (omega arith)).bits) inside
+      element_size (register_cells (Some x)) (kind_width (Some x)) (nets_of at k) e ((own_nets j k x is).count ∙ (holder k 0 x (omega arith)).bits) inside
 
   net_inside : (k i : ℕ) (x : Kind) → slice_get kinds k ≡ Some x → i < net_count x → slice_index (nets_of at k) i < length last.nodes
   net_inside k i x is low =
@@ -98,7 +92,7 @@ module _ {kinds : List Kind} {at : ObjectNets} {sources : List (List ℕ)} {old 
       let there = nets.there i 0 (omega arith) in
       omega arith
 
-  bit_there : (k e i : ℕ) (x : Kind) → slice_get kinds k ≡ Some x → e < own_words (Some x) → i < kind_width (Some x)
+  bit_there : (k e i : ℕ) (x : Kind) → slice_get kinds k ≡ Some x → e < register_cells (Some x) → i < kind_width (Some x)
       → slice_get last.nodes (slice_index (nets_of at k) (e * kind_width (Some x) + i))
       ≡ Some (Flop (Bit k (e * kind_width (Some x) + i)) (bit (slice_index (first_words x) e) i) (Some (slice_index (slice_index_or sources k []) (e * kind_width (Some x) + i))))
   bit_there k e i x is inside low =
@@ -114,15 +108,15 @@ pub record HasFlop (at : ObjectNets) (nodes : List Node) (w k e i : ℕ) : Type 
   pub size : length (element_nets w (nets_of at k) e) ≡ w
 
 joined_flop : {kinds : List Kind} {at : ObjectNets} {sources : List (List ℕ)} {old last : Circuit} → Joined kinds at sources old last
-    → (k e i : ℕ) → e < own_words (slice_get kinds k) → i < kind_width (slice_get kinds k) → HasFlop at last.nodes (kind_width (slice_get kinds k)) k e i
+    → (k e i : ℕ) → e < register_cells (slice_get kinds k) → i < kind_width (slice_get kinds k) → HasFlop at last.nodes (kind_width (slice_get kinds k)) k e i
 joined_flop {kinds} {at} {sources} {last = last} j k e i inside low =
     let x = some_kind (slice_get kinds k) e inside in
     subst (λ (o : Option Kind). HasFlop at last.nodes (kind_width o) k e i) (sym x.1) (record {
       init = bit (slice_index (first_words x.0) e) i;
       from = Some (slice_index (slice_index_or sources k []) (e * kind_width (Some x.0) + i));
-      flop = bit_there j k e i x.0 x.1 (subst (λ (o : Option Kind). e < own_words o) x.1 inside) (subst (λ (o : Option Kind). i < kind_width o) x.1 low);
+      flop = bit_there j k e i x.0 x.1 (subst (λ (o : Option Kind). e < register_cells o) x.1 inside) (subst (λ (o : Option Kind). i < kind_width o) x.1 low);
       element = element_net (kind_width (Some x.0)) (nets_of at k) e i (subst (λ (o : Option Kind). i < kind_width o) x.1 low);
-      size = element_long j k e x.0 x.1 (subst (λ (o : Option Kind). e < own_words o) x.1 inside);
+      size = element_long j k e x.0 x.1 (subst (λ (o : Option Kind). e < register_cells o) x.1 inside);
     })
 
 -- ---- histories
@@ -135,20 +129,20 @@ word_of kinds k x is = get_or-map first_words kinds k x [] (slice_get_within kin
 
 module _ {kinds : List Kind} {at : ObjectNets} {sources : List (List ℕ)} {old last : Circuit} (j : Joined kinds at sources old last) {trace : Trace} {h : History} (e : Explains last.nodes trace h) where
   -- a register or an array starts with its numbers
-  first_number : (sound : (k : ℕ) (x : Kind) → slice_get kinds k ≡ Some x → IsKind kinds x) (k n : ℕ) (x : Kind) → slice_get kinds k ≡ Some x → n < own_words (Some x)
+  first_number : (sound : (k : ℕ) (x : Kind) → slice_get kinds k ≡ Some x → IsKind kinds x) (k n : ℕ) (x : Kind) → slice_get kinds k ≡ Some x → n < register_cells (Some x)
       → number (map (h 0) (element_nets (kind_width (Some x)) (nets_of at k) n)) ≡ slice_index_or (words (initial kinds) k) n 0
   first_number sound k n x is inside =
       let w : ℕ = kind_width (Some x) in
       let bits = (holder k 0 x (omega arith)).bits in
-      let size : length (nets_of at k) ≡ own_words (Some x) * w = (own_nets j k x is).count ∙ bits in
+      let size : length (nets_of at k) ≡ register_cells (Some x) * w = (own_nets j k x is).count ∙ bits in
       let first : ℕ = slice_index (first_words x) n in
-      ap number (same_bits (h 0) (bit first) (element_nets w (nets_of at k) n) w (element_size (own_words (Some x)) w (nets_of at k) n size inside) (λ i low.
+      ap number (same_bits (h 0) (bit first) (element_nets w (nets_of at k) n) w (element_size (register_cells (Some x)) w (nets_of at k) n size inside) (λ i low.
       ap (h 0) (element_net w (nets_of at k) n i low)
       ∙ (does_at (slice_index (nets_of at k) (n * w + i)) (Flop (Bit k (n * w + i)) (bit first i) (Some (slice_index (slice_index_or sources k []) (n * w + i)))) e (bit_last j k n i x is inside low)).0))
       ∙ number-bits first w (first_below kinds x n (sound k x is) inside)
       ∙ ap (λ (l : List ℕ). slice_index l n) (sym (word_of kinds k x is))
 
-  holder_last : (k i : ℕ) (x : Kind) → slice_get kinds k ≡ Some x → 0 < own_words (Some x) → i < net_count x
+  holder_last : (k i : ℕ) (x : Kind) → slice_get kinds k ≡ Some x → 0 < register_cells (Some x) → i < net_count x
       → IsFed (node_at last.nodes (slice_index (nets_of at k) i)) (slice_index (slice_index_or sources k []) i)
   holder_last k i (kind.Reg w s init) is some low = register_last j k i w s init is low
   holder_last k i (kind.Array w s n init) is some low = array_last j k i w n s init is low
@@ -160,7 +154,7 @@ module _ {kinds : List Kind} {at : ObjectNets} {sources : List (List ℕ)} {old 
   holder_last k i (kind.Output w s pins value) is some low = absurd (omega arith)
 
   -- it holds after an edge what its source held before it
-  next_bits : (k t : ℕ) (x : Kind) → slice_get kinds k ≡ Some x → 0 < own_words (Some x) → map (h (suc t)) (nets_of at k) ≡ map (h t) (slice_index_or sources k [])
+  next_bits : (k t : ℕ) (x : Kind) → slice_get kinds k ≡ Some x → 0 < register_cells (Some x) → map (h (suc t)) (nets_of at k) ≡ map (h t) (slice_index_or sources k [])
   next_bits k t x is some =
       let count = (own_nets j k x is).count in
       same_maps (h (suc t)) (h t) (nets_of at k) (slice_index_or sources k []) (count ∙ sym (source_length j k x is (holds_reads x some))) (λ i low.
@@ -179,7 +173,7 @@ module _ {kinds : List Kind} {at : ObjectNets} {sources : List (List ℕ)} {old 
       let x : Kind = kind.Output w s pins value in
       let count = (own_nets j k x is).count in
       same_maps (h t) (h t) (nets_of at k) (slice_index_or sources k []) (count ∙ sym (source_length j k x is (output w s pins value))) (λ i low.
-      does_at (slice_index (nets_of at k) i) (Wire 0 (Some (slice_index (slice_index_or sources k []) i))) e (output_last j k i w s pins value is (omega arith)) t)
+      does_at (slice_index (nets_of at k) i) (Wire (2 ^ 32 - 1) (Some (slice_index (slice_index_or sources k []) i))) e (output_last j k i w s pins value is (omega arith)) t)
 
   zero_holds : (t : ℕ) → h t at.zero ≡ false
   zero_holds t = does_at at.zero (Gate gate.Zero 0 0) e (gate_last j at.zero gate.Zero 0 0 j.stand.zero) t
@@ -194,84 +188,22 @@ module _ {kinds : List Kind} {at : ObjectNets} {sources : List (List ℕ)} {old 
     first = λ k n inside.
         let x = some_kind (slice_get kinds k) n inside in
         subst (λ (o : Option Kind). number (map (h 0) (element_nets (kind_width o) (nets_of at k) n)) ≡ slice_index_or (words (initial kinds) k) n 0) (sym x.1)
-        (first_number sound k n x.0 x.1 (subst (λ (o : Option Kind). n < own_words o) x.1 inside));
+        (first_number sound k n x.0 x.1 (subst (λ (o : Option Kind). n < register_cells o) x.1 inside));
     next = λ k t some.
         let x = some_kind (slice_get kinds k) 0 some in
-        next_bits k t x.0 x.1 (subst (λ (o : Option Kind). 0 < own_words o) x.1 some);
+        next_bits k t x.0 x.1 (subst (λ (o : Option Kind). 0 < register_cells o) x.1 some);
     input = input_bits;
     output = output_bits;
   }
 
--- ---- tokens
+-- ---- the theorems
 
--- what the flip-flops of tokens do
-pub record TokensDo (h : History) (low first count : ℕ) : Type 0 where
-  pub low_is : (t : ℕ) → h t low ≡ false
-  pub start : (i : ℕ) → i < count → h 0 (first + i) ≡ (i == 0)
-  pub step : (i t : ℕ) → i < count → h (suc t) (first + i) ≡ h t (if i == 0 then low else first + i - 1)
-
--- tests of numbers
-zero_differs : (t : ℕ) → (0 == suc t) ≡ false
-zero_differs t = ⊎_elim (λ yes. absurd (omega (arith, yes.1))) (λ no. no.0) (eqb_tells 0 (suc t))
-
-one_differs : (i : ℕ) → (suc i == 0) ≡ false
-one_differs i = ⊎_elim (λ yes. absurd (omega (arith, yes.1))) (λ no. no.0) (eqb_tells (suc i) 0)
-
-both_more : (i t : ℕ) → (i == t) ≡ (suc i == suc t)
-both_more i t = ⊎_elim
-    (λ yes. ⊎_elim (λ also. yes.0 ∙ sym also.0) (λ no. absurd (no.1 (ap suc yes.1))) (eqb_tells (suc i) (suc t)))
-    (λ no. ⊎_elim (λ yes. absurd (no.1 (omega (arith, yes.1)))) (λ also. no.0 ∙ sym also.0) (eqb_tells (suc i) (suc t)))
-    (eqb_tells i t)
-
-tokens_hold : (h : History) (low first count : ℕ) → TokensDo h low first count → (t i : ℕ) → i < count → h t (first + i) ≡ (i == t)
-tokens_hold h low first count d zero i inside = d.start i inside
-tokens_hold h low first count d (suc t) zero inside = d.step 0 t inside ∙ d.low_is t ∙ sym (zero_differs t)
-tokens_hold h low first count d (suc t) (suc i) inside =
-    d.step (suc i) t inside
-    ∙ ap (λ (b : Bool). h t (if b then low else first + suc i - 1)) (one_differs i)
-    ∙ ap (h t) (let e : first + suc i - 1 ≡ first + i = omega arith in e)
-    ∙ tokens_hold h low first count d t i (omega arith)
-    ∙ both_more i t
-
-module _ {core : Core} {at : ObjectNets} {tokens : List ℕ} {uses : List ObjectUses} {sources : List (List ℕ)} {placed started used read last : Circuit} (s : Stages core at tokens uses sources placed started used read last) where
-  -- the flip-flop of a token stays
-  token_last : (i : ℕ) → i < length (actions_in (statement core.main)) → node_at last.nodes (length placed.nodes + i) ≡ token_node at.zero (length placed.nodes) i
-  token_last i inside =
-      let first : ℕ = length placed.nodes in
-      let count : ℕ = length (actions_in (statement core.main)) in
-      let list : List Node = token_nodes at.zero first count in
-      let size = length-append placed.nodes list in
-      let many = length-map-range_with_len (token_node at.zero first) 0 count in
-      let before : node_at read.nodes (first + i) ≡ token_node at.zero first i =
-      ap (λ l. node_at l (first + i)) ((added s).nodes ∙ ap (λ l. l ++ (added s).gates) (tokens_nodes s.adds_tokens))
-      ∙ get_or_append_left (placed.nodes ++ list) (added s).gates (Wire 0 None) (first + i) (omega arith)
-      ∙ get_or-append-add placed.nodes list i (Wire 0 None)
-      ∙ get_or-map-range_with_len (token_node at.zero first) 0 count i i (Wire 0 None) inside (let e : 0 + i ≡ i = omega arith in e) in
-      s.connects.kept (first + i) (ap is_open before) ∙ before
-
-  -- ---- the theorems
-
+module _ {core : Core} {at : ObjectNets} {uses : List ObjectUses} {sources : List (List ℕ)} {placed used read last : Circuit} (s : Stages core at uses sources placed used read last) where
   -- What the objects do.
   pub objects_run : (trace : Trace) (h : History) → Explains last.nodes trace h → ObjectsRun (kinds_of core.objects) at sources trace h
   objects_run trace h e = joined_run (joined s) e s.buildable.sound.kinds
 
-  tokens_do : (trace : Trace) (h : History) → Explains last.nodes trace h → TokensDo h at.zero (length placed.nodes) (length (actions_in (statement core.main)))
-  tokens_do trace h e = record {
-    low_is = zero_holds (joined s) e;
-    start = λ i inside. (does_at (length placed.nodes + i) (token_node at.zero (length placed.nodes) i) e (token_last i inside)).0;
-    step = λ i t inside. (does_at (length placed.nodes + i) (token_node at.zero (length placed.nodes) i) e (token_last i inside)).1 t;
-  }
-
-  -- Token i holds in clock i alone.
-  pub tokens_run : (trace : Trace) (h : History) → Explains last.nodes trace h → TokensRun tokens h
-  tokens_run trace h e t i inside =
-      let count = tokens_count s.adds_tokens in
-      let low : i < length (actions_in (statement core.main)) = omega arith in
-      let net : slice_index tokens i ≡ length placed.nodes + i =
-      ap (λ (l : List ℕ). slice_index l i) s.adds_tokens.nets_are ∙ get_or-range_with_len (length placed.nodes) (length (actions_in (statement core.main))) i 0 low in
-      ap (h t) net ∙ tokens_hold h at.zero (length placed.nodes) (length (actions_in (statement core.main))) (tokens_do trace h e) t i low
-
   -- The flip-flop of each bit of registers and arrays.
-  pub bit_flop : (k e i : ℕ) → e < own_words (slice_get (kinds_of core.objects) k) → i < kind_width (slice_get (kinds_of core.objects) k)
+  pub bit_flop : (k e i : ℕ) → e < register_cells (slice_get (kinds_of core.objects) k) → i < kind_width (slice_get (kinds_of core.objects) k)
       → HasFlop at last.nodes (kind_width (slice_get (kinds_of core.objects) k)) k e i
   bit_flop k e i inside low = joined_flop (joined s) k e i inside low

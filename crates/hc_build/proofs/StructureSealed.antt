@@ -1,94 +1,103 @@
 -- The circuit of a core that went through all stages can be sealed, has the core's ports, and few flip-flops and gates.
-use Rattle.std.proofs.Common.{◌≡◌, ◌≢◌, ◌<◌, ◌≤◌, ℕ, ◌+◌, ◌*◌, List, [], ◌∷◌, ◌++◌, length, map, Bool, true, Option, Some, None, refl, sym, ap, ◌∙◌, subst, arith, length-append}
+use Rattle.std.proofs.Common.{◌≡◌, ◌≢◌, ◌<◌, ◌≤◌, ℕ, ◌+◌, ◌-◌, ◌*◌, ◌^◌, List, [], ◌∷◌, ◌++◌, length, map, Bool, true, Option, Some, None, refl, sym, ap, ◌∙◌, subst, arith, length-append}
 use Rattle.std.specs.Prelude.{slice_get, slice_index, slice_index_or, All}
-use Rattle.std.specs.List.{range_with_len, sum_by}
-use Rattle.std.proofs.lemmas.List.Elements.{All-cons, All-from_get_or}
-use Rattle.std.proofs.lemmas.List.FromFn.{length-range_with_len}
+use Rattle.std.specs.List.{sum_by}
+use Rattle.std.proofs.lemmas.List.{append-nil}
+use Rattle.std.proofs.lemmas.List.Elements.{All-cons, All-append, All-weaker, All-from_get_or}
 use Rattle.std.proofs.lemmas.Option.{slice_get_within, get_or_from_slice_get}
 use Rattle.hc_core.specs.Read.{expression, statement}
 use Rattle.hc_core.specs.Typed.{kinds_of}
 use Rattle.hc_core.specs.Weight as weight
-use Rattle.hc_core.specs.Weight.{weight_of, kind_weight, statement_weight, statement_flops, kind_flops}
+use Rattle.hc_core.specs.Weight.{weight_of, statement_flops}
 use Rattle.hc_core.specs.declared.expr.Expr.{Expr}
 use Rattle.hc_core.specs.declared.object.Core.{Core}
 use Rattle.hc_core.specs.declared.object.Kind.{Kind}
 use Rattle.hc_core.specs.declared.object.Kind.TheVariants as kind
 use Rattle.hc_net.specs.Circuit.{Circuit, node_at, flops_of, gates_of}
-use Rattle.hc_net.specs.Made.{Over}
+use Rattle.hc_net.specs.Made.{Over, IsGate}
 use Rattle.hc_net.specs.MadeLemmas.{Over-within}
 use Rattle.hc_net.specs.Seal as seal
 use Rattle.hc_net.specs.Seal.{IsSealable, Within}
 use Rattle.hc_net.specs.Valid.{PortHasSizes, port_name}
 use Rattle.hc_net.specs.declared.net.FlopName.{FlopName}
+use Rattle.hc_net.specs.declared.net.FlopName.TheVariants.{Token}
 use Rattle.hc_net.specs.declared.net.Port.{Port}
 use Rattle.hc_net.specs.declared.node.Node.{Node}
-use Rattle.hc_net.specs.declared.node.Node.TheVariants.{Flop, Wire}
+use Rattle.hc_net.specs.declared.node.Node.TheVariants.{Input, Flop, Wire, Gate}
+use Rattle.hc_token.specs.Control.{tokens_from}
 use Rattle.hc_value.specs.Objects.{nets_of}
 use Rattle.hc_value.specs.Reads.{reached, read_nets}
 use Rattle.hc_value.specs.declared.objects.ObjectNets.{ObjectNets}
+use Rattle.hc_control.specs.Building.{IsControlNode}
+use Rattle.hc_control.specs.Built.{is_built_expression}
+use Rattle.hc_control.specs.Controlled.{most_control}
+use Rattle.hc_control.specs.Right.{AreAll}
+use Rattle.hc_control.specs.declared.uses.ObjectUses.{ObjectUses}
+use Rattle.hc_control.proofs.Adding.{keeps_gates, node_kept}
 use Rattle.hc_build.specs.Implements.{shape_of, shapes_of}
-use Rattle.hc_build.specs.Objects.{nodes_from, token_nodes, ports_from}
-use Rattle.hc_build.specs.Program.{actions_in}
+use Rattle.hc_build.specs.Objects.{nodes_from, ports_from}
 use Rattle.hc_build.specs.Sources.{output_gates}
-use Rattle.hc_build.specs.Uses.{action_gates, all_next_gates}
-use Rattle.hc_build.specs.declared.uses.ObjectUses.{ObjectUses}
-use Rattle.hc_build.proofs.Stages.{Stages}
-use Rattle.hc_build.specs.Built.{is_built_expression}
-use Rattle.hc_build.proofs.StructureNames.{flops_of-append, flops_of-bare, flops_of-gates, gates_of-append, gates_of-bare, gates_of-most, objects_flops, objects_gates, tokens_flops, tokens_gates, distinct_names}
-use Rattle.hc_build.proofs.StructurePorts.{shapes_are, shapes_placed, names_are, names_differ, sizes_are}
-use Rattle.hc_build.proofs.StructureStages.{constants, started_nodes, grown_nodes, Grown, grown, uses_of, constants_stand, can_connect}
+use Rattle.hc_build.specs.Uses.{all_next_gates}
 use Rattle.hc_build.proofs.Program.{built_outputs}
-use Rattle.hc_build.proofs.StructureWithin.{AreAll, reads_all, Over-moved}
-use Rattle.hc_build.proofs.StructureJoined.{IsDone, IsFed, Joined, Finished, done, input, driven, finished, own_nets, register_last, array_last, input_last, gate_last}
-use Rattle.hc_build.proofs.Weights.{actions_weigh, actions_few, all_next_light}
+use Rattle.hc_build.proofs.Stages.{Stages}
+use Rattle.hc_build.proofs.StructureNames.{flops_of-append, flops_of-bare, flops_of-gates, gates_of-append, gates_of-bare, gates_of-most, objects_flops, objects_gates, tokens_many, distinct_names}
+use Rattle.hc_build.proofs.StructurePorts.{shapes_are, shapes_placed, names_are, names_differ, sizes_are}
+use Rattle.hc_build.proofs.StructureStages.{constants, used_nodes, grown_nodes, uses_of, constants_stand, can_connect, few_next}
+use Rattle.hc_build.proofs.StructureWithin.{reads_all, Over-moved}
+use Rattle.hc_build.proofs.StructureJoined.{IsFed, Joined, Finished, done, input, driven, finished, own_nets, register_last, array_last, input_last, gate_last}
+use Rattle.hc_build.proofs.Weights.{all_next_light}
+
+gate_done : (nodes : List Node) (x : Node) → IsGate x → IsControlNode nodes x
+gate_done nodes (Input p i) is = absurd is
+gate_done nodes (Flop name init d) is = absurd is
+gate_done nodes (Wire rank from) is = absurd is
+gate_done nodes (Gate g a b) is = tt
 
 -- ---- from the stages
 
--- the gates behind the tokens
-abbrev pub made_gates : Core → List ObjectUses → Circuit → ℕ
-made_gates core uses used =
-    sum_by (action_gates (kinds_of core.objects)) (actions_in (statement core.main))
-    + (all_next_gates used.nodes (kinds_of core.objects) uses + sum_by (output_gates (kinds_of core.objects)) (kinds_of core.objects))
+module _ {core : Core} {at : ObjectNets} {uses : List ObjectUses} {sources : List (List ℕ)} {placed used read last : Circuit} (s : Stages core at uses sources placed used read last) where
+  -- control, and the gates behind it
+  pub behind : List Node
+  behind = s.controlled.adds.added ++ s.makes_sources.adds.gates
 
-module _ {core : Core} {at : ObjectNets} {tokens : List ℕ} {uses : List ObjectUses} {sources : List (List ℕ)} {placed started used read last : Circuit} (s : Stages core at tokens uses sources placed started used read last) where
-  pub added : Grown started read (made_gates core uses used)
-  added = grown s.makes_uses.adds s.makes_sources.adds
-
-  pub read_nodes : read.nodes ≡ nodes_from 0 0 (kinds_of core.objects) ++ (constants ++ (token_nodes at.zero (length placed.nodes) (length (actions_in (statement core.main))) ++ added.gates))
+  pub read_nodes : read.nodes ≡ nodes_from 0 0 (kinds_of core.objects) ++ (constants ++ behind)
+  unfolding behind
   read_nodes =
-      added.nodes
-      ∙ ap (λ l. l ++ added.gates) (started_nodes core placed started at at.zero (length (actions_in (statement core.main))) tokens s.places s.adds_tokens)
-      ∙ grown_nodes (nodes_from 0 0 (kinds_of core.objects)) constants (token_nodes at.zero (length placed.nodes) (length (actions_in (statement core.main)))) added.gates
+      s.makes_sources.adds.nodes
+      ∙ ap (λ l. l ++ s.makes_sources.adds.gates) (used_nodes core placed used at s.places s.controlled.adds)
+      ∙ grown_nodes (nodes_from 0 0 (kinds_of core.objects)) constants s.controlled.adds.added s.makes_sources.adds.gates
+
+  behind_parts : All (IsControlNode read.nodes) behind
+  unfolding behind
+  behind_parts =
+      All-append (IsControlNode read.nodes) s.controlled.adds.added s.makes_sources.adds.gates
+      (All-weaker (IsControlNode used.nodes) (IsControlNode read.nodes) (node_kept (keeps_gates s.makes_sources.adds)) s.controlled.adds.added s.controlled.adds.parts)
+      (All-weaker IsGate (IsControlNode read.nodes) (gate_done read.nodes) s.makes_sources.adds.gates s.makes_sources.adds.only)
 
   pub joined : Joined (kinds_of core.objects) at sources read last
-  joined =
-      let c = can_connect core at at.zero (length (actions_in (statement core.main))) tokens (actions_in (statement core.main)) uses sources placed started used read s.places s.adds_tokens s.makes_uses s.makes_sources in
-      record {
-        low = at.zero;
-        first = length placed.nodes;
-        count = length (actions_in (statement core.main));
-        gates = added.gates;
-        nodes = read_nodes;
-        only = added.only;
-        objects = s.places.objects;
-        stand = constants_stand core placed at (token_nodes at.zero (length placed.nodes) (length (actions_in (statement core.main))) ++ added.gates) read.nodes s.places read_nodes;
-        sized = c.each;
-        connects = s.connects;
-      }
+  joined = record {
+    behind = behind;
+    nodes = read_nodes;
+    parts = behind_parts;
+    objects = s.places.objects;
+    stand = constants_stand core placed at behind read.nodes s.places read_nodes;
+    sized = (can_connect core at uses sources placed used read s.places s.controlled s.makes_sources).each;
+    connects = s.connects;
+  }
 
   -- the source of an output reaches what its expression reads
   pub output_over : (k w : ℕ) (sign : Bool) (pins : List (List ℕ)) (value : Expr) → slice_get (kinds_of core.objects) k ≡ Some (kind.Output w sign pins value)
       → All (Over read.nodes (reached at (expression value))) (slice_index_or sources k [])
   output_over k w sign pins value is =
-      let u = uses_of (kinds_of core.objects) uses k (kind.Output w sign pins value) s.makes_uses.count is in
+      let u = uses_of (kinds_of core.objects) uses k (kind.Output w sign pins value) s.controlled.count is in
       (s.makes_sources.each k (kind.Output w sign pins value) u.0 is u.1).1.0
 
   -- it has the core's ports and clock pin
   pub last_ports : last.ports ≡ ports_from 0 core.objects
-  last_ports = s.connects.ports ∙ s.makes_sources.adds.ports ∙ s.makes_uses.adds.ports ∙ ap (λ (c : Circuit). c.ports) s.adds_tokens.adds ∙ s.places.ports
+  last_ports = s.connects.ports ∙ s.makes_sources.adds.ports ∙ s.controlled.adds.ports ∙ s.places.ports
 
   pub same_clock : last.clock ≡ core.clock
-  same_clock = s.connects.clock ∙ s.makes_sources.adds.clock ∙ s.makes_uses.adds.clock ∙ ap (λ (c : Circuit). c.clock) s.adds_tokens.adds ∙ s.places.clock
+  same_clock = s.connects.clock ∙ s.makes_sources.adds.clock ∙ s.controlled.adds.clock ∙ s.places.clock
 
   pub same_shapes : map shape_of last.ports ≡ shapes_of core.objects
   same_shapes = ap (map shape_of) last_ports ∙ shapes_are 0 core.objects
@@ -97,42 +106,51 @@ module _ {core : Core} {at : ObjectNets} {tokens : List ℕ} {uses : List Object
   same_placed_shapes place = shapes_placed place last.ports ∙ same_shapes
 
   -- what it reads is no matter for the flip-flops and the gates
-  last_flops : flops_of last.nodes ≡ flops_of (nodes_from 0 0 (kinds_of core.objects) ++ (constants ++ (token_nodes at.zero (length placed.nodes) (length (actions_in (statement core.main))) ++ added.gates)))
+  last_flops : flops_of last.nodes ≡ flops_of (nodes_from 0 0 (kinds_of core.objects) ++ (constants ++ behind))
   last_flops = sym (flops_of-bare last.nodes) ∙ ap flops_of s.connects.bare ∙ flops_of-bare read.nodes ∙ ap flops_of read_nodes
 
-  last_gates : gates_of last.nodes ≡ gates_of (nodes_from 0 0 (kinds_of core.objects) ++ (constants ++ (token_nodes at.zero (length placed.nodes) (length (actions_in (statement core.main))) ++ added.gates)))
+  last_gates : gates_of last.nodes ≡ gates_of (nodes_from 0 0 (kinds_of core.objects) ++ (constants ++ behind))
   last_gates = sym (gates_of-bare last.nodes) ∙ ap gates_of s.connects.bare ∙ gates_of-bare read.nodes ∙ ap gates_of read_nodes
+
+  -- the flip-flops behind the objects are the tokens
+  behind_flops : flops_of (constants ++ behind) ≡ (Token 0, true) ∷ tokens_from 1 (statement_flops (statement core.main))
+  unfolding behind
+  behind_flops =
+      flops_of-append constants (s.controlled.adds.added ++ s.makes_sources.adds.gates)
+      ∙ flops_of-append s.controlled.adds.added s.makes_sources.adds.gates
+      ∙ ap (λ l. flops_of s.controlled.adds.added ++ l) (flops_of-gates s.makes_sources.adds.gates s.makes_sources.adds.only)
+      ∙ append-nil (flops_of s.controlled.adds.added)
+      ∙ s.controlled.adds.tokens
+
+  behind_gates : gates_of (constants ++ behind) ≤ 2 + (most_control core + (all_next_gates used.nodes (kinds_of core.objects) uses + sum_by (output_gates (kinds_of core.objects)) (kinds_of core.objects)))
+  unfolding behind
+  behind_gates =
+      let both = gates_of-append s.controlled.adds.added s.makes_sources.adds.gates in
+      let control = s.controlled.adds.gates in
+      let most = gates_of-most s.makes_sources.adds.gates in
+      let made = s.makes_sources.adds.few in
+      omega arith
 
   pub few_flops : length (flops_of last.nodes) ≤ weight.flops_of core
   few_flops =
       let own : List Node = nodes_from 0 0 (kinds_of core.objects) in
-      let list : List Node = token_nodes at.zero (length placed.nodes) (length (actions_in (statement core.main))) in
-      let parts : flops_of (own ++ (constants ++ (list ++ added.gates))) ≡ flops_of own ++ (flops_of list ++ []) =
-      flops_of-append own (constants ++ (list ++ added.gates))
-      ∙ ap (λ l. flops_of own ++ l) (flops_of-append list added.gates ∙ ap (λ l. flops_of list ++ l) (flops_of-gates added.gates added.only)) in
-      let all : length (flops_of last.nodes) ≡ length (flops_of own ++ (flops_of list ++ [])) = ap length (last_flops ∙ parts) in
-      let outer = length-append (flops_of own) (flops_of list ++ []) in
-      let inner = length-append (flops_of list) [] in
+      let more : List Node = constants ++ behind in
+      let all : length (flops_of last.nodes) ≡ length (flops_of own ++ flops_of more) = ap length (last_flops ∙ flops_of-append own more) in
+      let outer = length-append (flops_of own) (flops_of more) in
       let objects = objects_flops 0 0 (kinds_of core.objects) in
-      let many = tokens_flops at.zero (length placed.nodes) (range_with_len 0 (length (actions_in (statement core.main)))) in
-      let count = length-range_with_len 0 (length (actions_in (statement core.main))) in
-      let few = actions_few (statement core.main) in
+      let tokens = ap length behind_flops in
+      let many = tokens_many 1 (statement_flops (statement core.main)) in
       omega arith
 
   pub few_gates : gates_of last.nodes ≤ weight_of core
   few_gates =
       let own : List Node = nodes_from 0 0 (kinds_of core.objects) in
-      let list : List Node = token_nodes at.zero (length placed.nodes) (length (actions_in (statement core.main))) in
-      let outer = gates_of-append own (constants ++ (list ++ added.gates)) in
-      let inner = gates_of-append list added.gates in
+      let outer = gates_of-append own (constants ++ behind) in
       let all = last_gates in
       let objects = objects_gates 0 0 (kinds_of core.objects) in
-      let none = tokens_gates at.zero (length placed.nodes) (length (actions_in (statement core.main))) in
-      let most = gates_of-most added.gates in
-      let few = added.few in
-      let uses_few = s.makes_uses.few in
-      let next = all_next_light (kinds_of core.objects) (kinds_of core.objects) in
-      let main = actions_weigh (kinds_of core.objects) (statement core.main) in
+      let most = behind_gates in
+      let next = few_next s.buildable s.places s.controlled in
+      let light = all_next_light (kinds_of core.objects) (kinds_of core.objects) in
       omega arith
 
 -- ---- what a net reaches
@@ -150,33 +168,49 @@ reads_within {kinds} {at} {last = last} j = record {
   input = λ k w s pins is. over_nets (Within last.nodes 0) (nets_of at k) w (own_nets j k (kind.Input w s pins) is).count (λ i low. seal.input _ _ i (input_last j k i w s pins is low));
 }
 
+-- what reaches no placeholder reaches none of a lower rank
+any_rank : {nodes : List Node} {rank k : ℕ} → Within nodes 0 k → Within nodes rank k
+any_rank (seal.input k p i is) = seal.input k p i is
+any_rank (seal.flop k name init d is) = seal.flop k name init d is
+any_rank (seal.wire k r from is low) = absurd (omega (arith, low))
+any_rank (seal.zero k a b is) = seal.zero k a b is
+any_rank (seal.one k a b is) = seal.one k a b is
+any_rank (seal.negation k a b is x) = seal.negation k a b is (any_rank x)
+any_rank (seal.conjunction k a b is x y) = seal.conjunction k a b is (any_rank x) (any_rank y)
+any_rank (seal.disjunction k a b is x y) = seal.disjunction k a b is (any_rank x) (any_rank y)
+any_rank (seal.exclusion k a b is x y) = seal.exclusion k a b is (any_rank x) (any_rank y)
+
 -- ---- sealable
 
 -- no flip-flop is left that reads nothing
-not_unfed : {kinds : List Kind} {at : ObjectNets} {sources : List (List ℕ)} (x : Node) → Finished kinds at sources x → (name : FlopName) (init : Bool) → x ≢ Flop name init None
-not_unfed x (done y is) name init = λ same. subst IsDone same is
+not_unfed : {kinds : List Kind} {nodes : List Node} {sources : List (List ℕ)} (x : Node) → Finished kinds nodes sources x → (name : FlopName) (init : Bool) → x ≢ Flop name init None
+not_unfed {nodes = nodes} x (done y is) name init = λ same. subst (IsControlNode nodes) same is
 not_unfed _ (input p i) name init = λ same. absurd cc
 not_unfed _ (driven k i w s pins value is low) name init = λ same. absurd cc
 
--- a placeholder is one of an output
-pub record Driver (kinds : List Kind) (sources : List (List ℕ)) (rank : ℕ) (from : Option ℕ) : Type 0 where
-  pub object : ℕ
-  pub place : ℕ
-  pub width : ℕ
-  pub signed : Bool
-  pub pins : List (List ℕ)
-  pub value : Expr
-  pub is : slice_get kinds object ≡ Some (kind.Output width signed pins value)
-  pub within : place < width
-  pub rank_is : rank ≡ 0
-  pub from_is : from ≡ Some (slice_index (slice_index_or sources object []) place)
+-- a placeholder is driven by what reaches no other
+done_driven : (nodes : List Node) (x : Node) → IsControlNode nodes x → (rank : ℕ) (from : Option ℕ) → x ≡ Wire rank from → (d : ℕ) × (from ≡ Some d) × Within nodes rank d
+done_driven nodes (Input p i) is rank from same = absurd is
+done_driven nodes (Flop name init d) is rank from same = absurd cc
+done_driven nodes (Wire r None) is rank from same = absurd is
+done_driven nodes (Wire r (Some d)) is rank from same =
+    let ranks : r ≡ rank = cc in
+    let drivers : Some d ≡ from = cc in
+    (d, sym drivers, subst (λ n. Within nodes n d) (sym is.0 ∙ ranks) is.1)
+done_driven nodes (Gate g a b) is rank from same = absurd cc
 
-is_driven : {kinds : List Kind} {at : ObjectNets} {sources : List (List ℕ)} (x : Node) → Finished kinds at sources x → (rank : ℕ) (from : Option ℕ) → x ≡ Wire rank from → Driver kinds sources rank from
-is_driven x (done y is) rank from same = absurd (subst IsDone same is)
-is_driven _ (input p i) rank from same = absurd cc
-is_driven _ (driven k i w s pins value is low) rank from same = record { object = k; place = i; width = w; signed = s; pins = pins; value = value; is = is; within = low; rank_is = cc; from_is = cc }
+is_driven : {kinds : List Kind} {nodes : List Node} {sources : List (List ℕ)} (x : Node) → Finished kinds nodes sources x
+    → ((k i w : ℕ) (sign : Bool) (pins : List (List ℕ)) (value : Expr) → slice_get kinds k ≡ Some (kind.Output w sign pins value) → i < w → Within nodes 0 (slice_index (slice_index_or sources k []) i))
+    → (rank : ℕ) (from : Option ℕ) → x ≡ Wire rank from → (d : ℕ) × (from ≡ Some d) × Within nodes rank d
+is_driven {nodes = nodes} x (done y is) outputs rank from same = done_driven nodes x is rank from same
+is_driven _ (input p i) outputs rank from same = absurd cc
+is_driven {nodes = nodes} {sources = sources} _ (driven k i w s pins value is low) outputs rank from same =
+    let net : ℕ = slice_index (slice_index_or sources k []) i in
+    let ranks : 2 ^ 32 - 1 ≡ rank = cc in
+    let drivers : Some net ≡ from = cc in
+    (net, sym drivers, subst (λ n. Within nodes n net) ranks (any_rank (outputs k i w s pins value is low)))
 
-module _ {core : Core} {at : ObjectNets} {tokens : List ℕ} {uses : List ObjectUses} {sources : List (List ℕ)} {placed started used read last : Circuit} (s : Stages core at tokens uses sources placed started used read last) where
+module _ {core : Core} {at : ObjectNets} {uses : List ObjectUses} {sources : List (List ℕ)} {placed used read last : Circuit} (s : Stages core at uses sources placed used read last) where
   -- what an output's source reaches
   output_within : (k i w : ℕ) (sign : Bool) (pins : List (List ℕ)) (value : Expr) → slice_get (kinds_of core.objects) k ≡ Some (kind.Output w sign pins value) → i < w
       → Within last.nodes 0 (slice_index (slice_index_or sources k []) i)
@@ -195,21 +229,18 @@ module _ {core : Core} {at : ObjectNets} {tokens : List ℕ} {uses : List Object
       All-cons (Within last.nodes 0) at.zero (at.one ∷ read_nets at (expression value)) zero (All-cons (Within last.nodes 0) at.one (read_nets at (expression value)) one names) in
       Over-within all (Over-moved (gate_last j) over)
 
-  node_finished : (n : ℕ) (x : Node) → slice_get last.nodes n ≡ Some x → Finished (kinds_of core.objects) at sources x
+  node_finished : (n : ℕ) (x : Node) → slice_get last.nodes n ≡ Some x → Finished (kinds_of core.objects) last.nodes sources x
   node_finished n x is =
-      subst (λ (y : Node). Finished (kinds_of core.objects) at sources y) (get_or_from_slice_get last.nodes n x (Wire 0 None) is)
+      subst (λ (y : Node). Finished (kinds_of core.objects) last.nodes sources y) (get_or_from_slice_get last.nodes n x (Wire 0 None) is)
       (finished (joined s) n (slice_get_within last.nodes n x is))
 
   -- The circuit can be sealed.
   pub sealable : IsSealable last
   sealable = record {
     fed = λ n name init is. not_unfed (Flop name init None) (node_finished n (Flop name init None) is) name init refl;
-    driven = λ n rank from is.
-        let d = is_driven (Wire rank from) (node_finished n (Wire rank from) is) rank from refl in
-        let net : ℕ = slice_index (slice_index_or sources d.object []) d.place in
-        (net, d.from_is, subst (λ r. Within last.nodes r net) (sym d.rank_is) (output_within d.object d.place d.width d.signed d.pins d.value d.is d.within));
+    driven = λ n rank from is. is_driven (Wire rank from) (node_finished n (Wire rank from) is) output_within rank from refl;
     flop_names = λ i j f g lower at_i at_j.
-        distinct_names (kinds_of core.objects) at.zero (length placed.nodes) (length (actions_in (statement core.main))) constants (added s).gates refl (added s).only i j f g lower
+        distinct_names (kinds_of core.objects) (statement_flops (statement core.main)) (constants ++ behind s) (behind_flops s) i j f g lower
         (subst (λ (l : List (FlopName × Bool)). slice_get l i ≡ Some f) (last_flops s) at_i)
         (subst (λ (l : List (FlopName × Bool)). slice_get l j ≡ Some g) (last_flops s) at_j);
     port_names = names_differ last.ports _ (ap (map port_name) (last_ports s) ∙ names_are 0 core.objects) s.buildable.sound.names_differ;

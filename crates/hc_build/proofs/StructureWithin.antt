@@ -1,13 +1,11 @@
 -- What an expression of built forms reads, and what a net reaches back to when flip-flops are fed.
-use Rattle.std.proofs.Common.{◌≡◌, ℕ, List, [], ◌++◌, Bool, true, ◌&&◌, Some}
-use Rattle.std.specs.Prelude.{slice_get, All}
+use Rattle.std.proofs.Common.{◌≡◌, ℕ, List, [], ◌++◌, Bool, true, ◌&&◌}
+use Rattle.std.specs.Prelude.{All}
 use Rattle.std.proofs.lemmas.List.Elements.{All-nil, All-append}
-use Rattle.hc_num.specs.Number.{Number}
 use Rattle.hc_core.specs.Program.{Expression}
 use Rattle.hc_core.specs.Typed as typed
 use Rattle.hc_core.specs.Typed.{Typed}
 use Rattle.hc_core.specs.declared.object.Kind.{Kind}
-use Rattle.hc_core.specs.declared.object.Kind.TheVariants as kind
 use Rattle.hc_net.specs.Circuit.{node_at}
 use Rattle.hc_net.specs.Made as made
 use Rattle.hc_net.specs.Made.{Over}
@@ -17,16 +15,11 @@ use Rattle.hc_net.specs.declared.node.Node.TheVariants.{Gate}
 use Rattle.hc_value.specs.Objects.{nets_of}
 use Rattle.hc_value.specs.Reads.{read_nets}
 use Rattle.hc_value.specs.declared.objects.ObjectNets.{ObjectNets}
-use Rattle.hc_build.specs.Built.{is_built_expression}
+use Rattle.hc_control.specs.Built.{is_built_expression}
+use Rattle.hc_control.specs.Right.{AreAll}
 use Rattle.hc_build.proofs.Program.{both_of}
 
 -- ---- what an expression reads
-
--- this holds of the nets of each register, array and input
-pub record AreAll (P : ℕ → Type 0) (kinds : List Kind) (at : ObjectNets) : Type 0 where
-  pub register : (k w : ℕ) (s : Bool) (init : Number) → slice_get kinds k ≡ Some (kind.Reg w s init) → All P (nets_of at k)
-  pub array : (k w n : ℕ) (s : Bool) (init : List Number) → slice_get kinds k ≡ Some (kind.Array w s n init) → All P (nets_of at k)
-  pub input : (k w : ℕ) (s : Bool) (pins : List (List ℕ)) → slice_get kinds k ≡ Some (kind.Input w s pins) → All P (nets_of at k)
 
 pub reads_all : {P : ℕ → Type 0} {kinds : List Kind} {at : ObjectNets} → AreAll P kinds at → (e : Expression) (w : ℕ) (s : Bool) → Typed kinds e w s → is_built_expression e ≡ true → All P (read_nets at e)
 reads_all {P} all _ _ _ (typed.constant n is) built = All-nil P

@@ -8,7 +8,7 @@ use Rattle.hc_core.specs.declared.object.Kind.TheVariants as kind
 use Rattle.hc_core.specs.declared.object.Object.{Object}
 use Rattle.hc_core.specs.declared.object.Core.{Core}
 use Rattle.hc_meaning.specs.Value.{Store, words}
-use Rattle.hc_meaning.specs.Clock.{own_words}
+use Rattle.hc_meaning.specs.Clock.{register_cells}
 use Rattle.hc_meaning.specs.Run.{Run}
 use Rattle.hc_net.specs.Bits.{bit}
 use Rattle.hc_net.specs.Run.{Trace, HoldsBit, state_at, outputs_at}
@@ -21,7 +21,7 @@ use Rattle.hc_net.specs.declared.net.RawNet.{RawNet}
 -- Each bit of each register and of each element of an array has exactly one flip-flop, and it holds the bit. Bit i of
 -- element e of w bits is bit e * w + i of the array; a register is its own element 0.
 pub record Same (kinds : List Kind) (store : Store) (flops : List Flop) (state : List Bool) : Type 0 where
-  pub bits : (k e i : ℕ) → e < own_words (slice_get kinds k) → i < kind_width (slice_get kinds k)
+  pub bits : (k e i : ℕ) → e < register_cells (slice_get kinds k) → i < kind_width (slice_get kinds k)
       → HoldsBit flops state (Bit k (e * kind_width (slice_get kinds k) + i)) (bit (slice_index_or (words store k) e 0) i)
 
 -- what a port shows outside: whether it is an output, its name, its width and its pins

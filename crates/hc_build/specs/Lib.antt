@@ -1,7 +1,6 @@
 pub mod Built
 pub mod Implements
 pub mod Objects
-pub mod Program
 pub mod Uses
 pub mod Sources
 pub mod Runs

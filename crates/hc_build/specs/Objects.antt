@@ -1,5 +1,5 @@
 -- The nodes and ports that stand for the objects of a core, object by object.
-use Rattle.std.specs.Prelude.{◌≡◌, ◌<◌, ℕ, ◌+◌, ◌-◌, ◌*◌, ◌^◌, ◌==◌, true, List, [], ◌∷◌, ◌++◌, length, map, replicate, if◌then◌else◌, Some, None}
+use Rattle.std.specs.Prelude.{◌≡◌, ◌<◌, ℕ, ◌+◌, ◌-◌, ◌^◌, true, List, [], ◌∷◌, ◌++◌, length, map, replicate, if◌then◌else◌, None}
 use Rattle.std.specs.List.{range_with_len}
 use Rattle.hc_core.specs.Sound.{HasLabelBytes, IsKind, is_port}
 use Rattle.hc_core.specs.Typed.{kinds_of}
@@ -13,21 +13,11 @@ use Rattle.hc_net.specs.Circuit.{Circuit, input_count, input_nodes}
 use Rattle.hc_net.specs.declared.gate.GateKind.TheVariants as gate
 use Rattle.hc_net.specs.declared.net.Port.{Port}
 use Rattle.hc_net.specs.declared.net.Port.TheVariants.{Input, Output}
-use Rattle.hc_net.specs.declared.net.FlopName.TheVariants.{Bit, Token}
+use Rattle.hc_net.specs.declared.net.FlopName.TheVariants.{Bit}
 use Rattle.hc_net.specs.declared.node.Node.{Node}
 use Rattle.hc_net.specs.declared.node.Node.TheVariants.{Flop, Wire, Gate}
 use Rattle.hc_value.specs.declared.objects.ObjectNets.{ObjectNets}
-
--- how many nets an object has: one for each bit of a register, of all elements of an array, of an input and of an output
-abbrev pub net_count : Kind → ℕ
-net_count (kind.Reg w s init) = w
-net_count (kind.Array w s n init) = n * w
-net_count (kind.Ram w s n init) = 0
-net_count (kind.Rom w s n init) = 0
-net_count (kind.Signal w s unset) = 0
-net_count (kind.Chan w s queue) = 0
-net_count (kind.Input w s pins) = w
-net_count (kind.Output w s pins value) = w
+use Rattle.hc_control.specs.Right.{net_count}
 
 -- Flip-flops for w bits of object k, bit `from` of the object the first. They start with this number and aren't fed yet.
 abbrev pub word_flops : (k from w bits : ℕ) → List Node
@@ -37,6 +27,10 @@ word_flops k from w bits = map (λ i. Flop (Bit k (from + i)) (bit bits i) None)
 abbrev pub words_flops : (k from w : ℕ) → List ℕ → List Node
 words_flops k from w [] = []
 words_flops k from w (bits ∷ rest) = word_flops k from w bits ++ words_flops k (from + w) w rest
+
+-- a placeholder for a bit of an output: no net reaches it, so what drives it may reach placeholders of every lower rank
+abbrev pub output_wire : Node
+output_wire = Wire (2 ^ 32 - 1) None
 
 -- The nodes of object k, before which so many inputs stand: flip-flops of a register or an array, the bits of an input, and
 -- a placeholder for each bit of an output.
@@ -48,7 +42,7 @@ object_nodes k inputs (kind.Rom w s n init) = []
 object_nodes k inputs (kind.Signal w s unset) = []
 object_nodes k inputs (kind.Chan w s queue) = []
 object_nodes k inputs (kind.Input w s pins) = input_nodes inputs w
-object_nodes k inputs (kind.Output w s pins value) = replicate w (Wire 0 None)
+object_nodes k inputs (kind.Output w s pins value) = replicate w output_wire
 
 -- those of all objects, numbered from k on
 abbrev pub nodes_from : (k inputs : ℕ) → List Kind → List Node
@@ -103,18 +97,3 @@ pub record Places (core : Core) (c : Circuit) (at : ObjectNets) : Type 0 where
   pub objects : at.objects ≡ nets_from 0 (kinds_of core.objects)
   pub zero : at.zero ≡ length (nodes_from 0 0 (kinds_of core.objects))
   pub one : at.one ≡ length (nodes_from 0 0 (kinds_of core.objects)) + 1
-
--- ---- tokens
-
--- The flip-flops of the tokens from number i on, where the net of token 0 is `first`: token 0 holds in clock 0 alone, and
--- each other one in the clock after the one before it.
-abbrev pub token_node : (low first i : ℕ) → Node
-token_node low first i = Flop (Token i) (i == 0) (Some (if i == 0 then low else first + i - 1))
-
-abbrev pub token_nodes : (low first count : ℕ) → List Node
-token_nodes low first count = map (token_node low first) (range_with_len 0 count)
-
--- So many tokens are added, with these nets.
-pub record AddsTokens (low count : ℕ) (old new : Circuit) (nets : List ℕ) : Type 0 where
-  pub nets_are : nets ≡ range_with_len (length old.nodes) count
-  pub adds : new ≡ record { clock = old.clock; ports = old.ports; nodes = old.nodes ++ token_nodes low (length old.nodes) count }

@@ -17,7 +17,7 @@ use Rattle.hc_value.specs.declared.objects.ObjectNets.{ObjectNets}
 use Rattle.hc_build.specs.Built.{is_built_kind}
 use Rattle.hc_build.specs.Objects.{nodes_from, nets_from}
 use Rattle.hc_build.specs.Uses.{next_gates, all_next_gates}
-use Rattle.hc_build.specs.declared.uses.ObjectUses.{ObjectUses}
+use Rattle.hc_control.specs.declared.uses.ObjectUses.{ObjectUses}
 
 -- the gates for the expression of an output
 abbrev pub output_gates : List Kind → Kind → ℕ

@@ -1,127 +1,14 @@
--- What the actions of a program write, object by object, and the nets that say so.
-use Rattle.std.specs.Prelude.{◌≡◌, ◌<◌, ◌≤◌, ℕ, ◌+◌, ◌*◌, ◌==◌, List, [], ◌∷◌, ◌++◌, length, map, true, false, if◌then◌else◌, Some, slice_get, slice_index, slice_index_or, slice_set, All}
-use Rattle.std.specs.List.{sum_by}
-use Rattle.hc_num.specs.Index.{index_width}
-use Rattle.hc_num.specs.Number.{Number}
-use Rattle.hc_core.specs.Program.{Expression, Constant, Target, ToRegister, ToElement, ToWord, ToSignal}
-use Rattle.hc_core.specs.Sound.{Fits}
-use Rattle.hc_core.specs.Typed.{kind_width, width_of}
+-- The gates for what objects hold after an edge, by their uses.
+use Rattle.std.specs.Prelude.{◌≡◌, ℕ, ◌+◌, ◌*◌, List, [], ◌∷◌, length, Some, slice_get}
 use Rattle.hc_core.specs.Weight.{expression_weight, target_weight}
 use Rattle.hc_core.specs.declared.object.Kind.{Kind}
 use Rattle.hc_core.specs.declared.object.Kind.TheVariants as kind
 use Rattle.hc_meaning.specs.Residual.{Action, Assign, Delay, Send, Receive}
-use Rattle.hc_net.specs.Circuit.{Circuit, node_at, constant_at}
-use Rattle.hc_net.specs.Made.{Adds, Always}
 use Rattle.hc_net.specs.declared.node.Node.{Node}
-use Rattle.hc_store.specs.Takes.{AreValues, hold_gates}
 use Rattle.hc_store.specs.Arrays.{array_gates}
-use Rattle.hc_value.specs.Moves.{constant_nets}
-use Rattle.hc_value.specs.Objects.{nets_of, AreNets, HasConstants}
-use Rattle.hc_value.specs.Reads.{Holds, MakesValue}
-use Rattle.hc_value.specs.declared.objects.ObjectNets.{ObjectNets}
-use Rattle.hc_build.specs.Built.{is_built_target, is_built_expression}
-use Rattle.hc_build.specs.Objects.{net_count}
-use Rattle.hc_build.specs.declared.uses.ObjectUses.{ObjectUses}
-
--- ---- the writes of a program without control
-
--- a write of an object: the number of its action, where it writes, and what
-pub record Write : Type 0 where
-  pub action : ℕ
-  pub target : Target
-  pub value : Expression
-
--- the object that a target writes
-abbrev pub object_of : Target → ℕ
-object_of (ToRegister k) = k
-object_of (ToElement k i) = k
-object_of (ToWord k i) = k
-object_of (ToSignal k) = k
-
--- the write of object k that an action of this number makes, if it makes one
-abbrev pub write_of : ℕ → ℕ → Action → List Write
-write_of k n (Assign t e) = if object_of t == k then record { action = n; target = t; value = e } ∷ [] else []
-write_of k n Delay = []
-write_of k n (Send chan e) = []
-write_of k n (Receive chan t) = []
-
--- the writes of object k among actions, the first of which has this number
-abbrev pub writes_from : ℕ → ℕ → List Action → List Write
-writes_from k n [] = []
-writes_from k n (a ∷ rest) = write_of k n a ++ writes_from k (n + 1) rest
-
--- ---- what an action takes
-
--- an assignment to a register or an element with all in types and forms that are built, or a delay
-abbrev pub IsBuiltAction : List Kind → Action → Type 0
-IsBuiltAction kinds (Assign t e) = Fits kinds t e × (is_built_target t ≡ true) × (is_built_expression e ≡ true)
-IsBuiltAction kinds Delay = Unit {0}
-IsBuiltAction kinds (Send chan e) = ⊥
-IsBuiltAction kinds (Receive chan t) = ⊥
-
--- the weight of a target's index
-abbrev pub index_weight : List Kind → Target → ℕ
-index_weight kinds (ToRegister k) = 0
-index_weight kinds (ToElement k i) = expression_weight kinds i
-index_weight kinds (ToWord k i) = expression_weight kinds i
-index_weight kinds (ToSignal k) = 0
-
--- the gates for the values and the indexes of an action
-abbrev pub action_gates : List Kind → Action → ℕ
-action_gates kinds (Assign t e) = index_weight kinds t + expression_weight kinds e
-action_gates kinds Delay = 0
-action_gates kinds (Send chan e) = 0
-action_gates kinds (Receive chan t) = 0
-
--- the weight of an action
-abbrev pub action_weight : List Kind → Action → ℕ
-action_weight kinds (Assign t e) = 40 + target_weight kinds t + expression_weight kinds e
-action_weight kinds Delay = 40
-action_weight kinds (Send chan e) = 40
-action_weight kinds (Receive chan t) = 40
-
--- ---- the nets of objects
-
--- Each object has its nets among the first n, and the two constants are the gates that give them.
-pub record HasPlaces (kinds : List Kind) (nodes : List Node) (at : ObjectNets) : Type 0 where
-  pub count : length at.objects ≡ length kinds
-  pub each : (k : ℕ) (kind : Kind) → slice_get kinds k ≡ Some kind → AreNets (length nodes) (net_count kind) (nets_of at k)
-  pub zero : constant_at (node_at nodes at.zero) ≡ Some false
-  pub one : constant_at (node_at nodes at.one) ≡ Some true
-  pub constants : HasConstants (length nodes) at
-
--- how many bits the index of a write has: none for a register
-abbrev pub index_bits : Kind → ℕ
-index_bits (kind.Reg w s init) = 0
-index_bits (kind.Array w s n init) = index_width n
-index_bits (kind.Ram w s n init) = index_width n
-index_bits (kind.Rom w s n init) = index_width n
-index_bits (kind.Signal w s unset) = 0
-index_bits (kind.Chan w s queue) = 0
-index_bits (kind.Input w s pins) = 0
-index_bits (kind.Output w s pins value) = 0
-
--- the nets hold the index of a target, if it has one
-abbrev pub HoldsIndex : List Kind → ObjectNets → List Node → Target → List ℕ → Type 0
-HoldsIndex kinds at nodes (ToRegister k) nets = Unit {0}
-HoldsIndex kinds at nodes (ToElement k i) nets = Always nodes (Holds kinds at i nets)
-HoldsIndex kinds at nodes (ToWord k i) nets = Always nodes (Holds kinds at i nets)
-HoldsIndex kinds at nodes (ToSignal k) nets = Unit {0}
-
--- the nets of an object's uses are there, as many as its kind wants
-pub record AreThere (kind : Kind) (nodes : List Node) (u : ObjectUses) : Type 0 where
-  pub enables : All (λ k. k < length nodes) u.enables
-  pub index_count : length u.indexes ≡ length u.enables
-  pub value_count : length u.values ≡ length u.enables
-  pub indexes : AreValues (length nodes) (index_bits kind) u.indexes
-  pub values : AreValues (length nodes) (kind_width (Some kind)) u.values
-
--- The uses of an object have its writes: for each the net of its action, nets that hold its index, and nets that hold its value.
-pub record AreUses (kinds : List Kind) (at : ObjectNets) (tokens : List ℕ) (nodes : List Node) (kind : Kind) (writes : List Write) (u : ObjectUses) : Type 0 where
-  pub enables : u.enables ≡ map (λ x. slice_index tokens x.action) writes
-  pub there : AreThere kind nodes u
-  pub index : (i : ℕ) (x : Write) → slice_get writes i ≡ Some x → HoldsIndex kinds at nodes x.target (slice_index_or u.indexes i [])
-  pub value : (i : ℕ) (x : Write) → slice_get writes i ≡ Some x → Always nodes (Holds kinds at x.value (slice_index_or u.values i []))
+use Rattle.hc_store.specs.Takes.{hold_gates}
+use Rattle.hc_control.specs.Uses.{AreThere}
+use Rattle.hc_control.specs.declared.uses.ObjectUses.{ObjectUses}
 
 -- the gates for the next bits of an object
 abbrev pub next_gates : List Node → Kind → ObjectUses → ℕ
@@ -151,43 +38,12 @@ next_weight (kind.Chan w s queue) = 0
 next_weight (kind.Input w s pins) = 0
 next_weight (kind.Output w s pins value) = 0
 
--- Gates for the values and indexes of the actions were added, and each object has its uses; the next bits of all objects
--- take no more gates than the objects and the actions weigh.
-pub record MakesUses (kinds : List Kind) (at : ObjectNets) (tokens : List ℕ) (actions : List Action) (old new : Circuit) (uses : List ObjectUses) : Type 0 where
-  pub adds : Adds (sum_by (action_gates kinds) actions) old new
-  pub count : length uses ≡ length kinds
-  pub each : (k : ℕ) (kind : Kind) (u : ObjectUses) → slice_get kinds k ≡ Some kind → slice_get uses k ≡ Some u
-      → AreUses kinds at tokens new.nodes kind (writes_from k 0 actions) u
-  pub few : all_next_gates new.nodes kinds uses + sum_by (action_gates kinds) actions ≤ sum_by next_weight kinds + sum_by (action_weight kinds) actions
-
--- the uses of an object with one write more
-abbrev pub with_use : ℕ → List ℕ → List ℕ → ObjectUses → ObjectUses
-with_use token index nets u = record { enables = u.enables ++ token ∷ []; indexes = u.indexes ++ index ∷ []; values = u.values ++ nets ∷ [] }
-
--- The nets of a target's index, of as many gates as the index weighs; those of a constant are the constants' own.
-pub record MakesIndex (kinds : List Kind) (at : ObjectNets) (t : Target) (old new : Circuit) (nets : List ℕ) : Type 0 where
-  pub adds : Adds (index_weight kinds t) old new
-  pub there : All (λ k. k < length new.nodes) nets
-  pub width : (kind : Kind) → slice_get kinds (object_of t) ≡ Some kind → length nets ≡ index_bits kind
-  pub holds : HoldsIndex kinds at new.nodes t nets
-  pub constant : (n : Number) (k : ℕ) → t ≡ ToElement k (Constant n) → nets ≡ constant_nets at.zero at.one n
-
--- The nets of a write's index and value were made, and stand behind the uses of its object.
-pub record AddsUse (kinds : List Kind) (at : ObjectNets) (token : ℕ) (t : Target) (e : Expression) (old new : Circuit) (uses more : List ObjectUses) : Type 0 where
-  pub index : List ℕ
-  pub nets : List ℕ
-  pub middle : Circuit
-  pub makes_index : MakesIndex kinds at t old middle index
-  pub makes_value : MakesValue kinds at e middle new nets
-  pub width : length nets ≡ width_of kinds e
-  pub put : more ≡ slice_set uses (object_of t) (with_use token index nets (slice_index_or uses (object_of t) (record { enables = []; indexes = []; values = [] })))
-
--- The write of an action was added, if it has one.
-abbrev pub AddsUses : List Kind → ObjectNets → ℕ → Action → Circuit → Circuit → List ObjectUses → List ObjectUses → Type 0
-AddsUses kinds at token (Assign t e) old new uses more = AddsUse kinds at token t e old new uses more
-AddsUses kinds at token Delay old new uses more = (new ≡ old) × (more ≡ uses)
-AddsUses kinds at token (Send chan e) old new uses more = ⊥
-AddsUses kinds at token (Receive chan t) old new uses more = ⊥
+-- The part of an action's weight that isn't its control's.
+abbrev pub action_weight : List Kind → Action → ℕ
+action_weight kinds (Assign t e) = 32 + target_weight kinds t + expression_weight kinds e
+action_weight kinds Delay = 32
+action_weight kinds (Send chan e) = 32
+action_weight kinds (Receive chan t) = 32
 
 -- The uses are there for the next bits of each object.
 pub record HasUses (kinds : List Kind) (nodes : List Node) (uses : List ObjectUses) : Type 0 where

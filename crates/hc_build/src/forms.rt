@@ -1,13 +1,17 @@
 //! The first form of a core that isn't built yet: objects by number, and then statements, an outer one before those within
 //! it. Lists are gone over by loops, so that the recursion is as deep as statements and expressions are nested.
 
-ghost use Rattle.std.specs.Prelude.{◌≡◌};
+ghost use Rattle.std.specs.Prelude.{◌≡◌, None, not};
+ghost use Rattle.hc_core.specs.FirstPlace.{first_object, here_or};
 ghost use Rattle.hc_core.specs.Program.{Assign};
-ghost use Rattle.hc_core.specs.Read.{expression, target, statement, statements};
+ghost use Rattle.hc_core.specs.Rules.{nameless};
+ghost use Rattle.hc_core.specs.Read.{expression, target, statement, statements, arms};
+ghost use Rattle.hc_control.specs.Built as forms;
+ghost use Rattle.hc_control.specs.Built.{unbuilt_statement, unbuilt_parts, unbuilt_arms};
 ghost use Rattle.hc_build.specs.Built as built;
-ghost use Rattle.hc_build.specs.Built.{unbuilt_object, unbuilt_statement, unbuilt_parts};
+ghost use Rattle.hc_build.specs.Built.{unbuilt_kind, place_of};
 
-use hc_core::{Core, Expr, Kind, Object, Stmt, Target};
+use hc_core::{Arm, Core, Expr, Kind, Object, Stmt, Target};
 use hc_tree::Place;
 
 /// The place of the first form of a core that isn't built, if there is one. The rule serves only until all forms are built.
@@ -23,7 +27,7 @@ pub fn unbuilt(core: &Core) -> Option<Place>
 
 /// The place of the first object that isn't built.
 fn of_objects(objects: &[Object]) -> Option<Place>
-    ensures { result ≡ unbuilt_object objects.now }
+    ensures { result ≡ place_of (first_object unbuilt_kind 0 objects.now) }
 {
     let mut rest = objects;
     while let [first, behind @ ..] = rest {
@@ -55,7 +59,7 @@ fn is_built_kind(kind: &Kind) -> bool
 #[cycle(unbuilt)]
 #[tactic(auto, using(hc_core::proofs::Read::reading))]
 fn of_statement(s: &Stmt) -> Option<Place>
-    ensures { result ≡ unbuilt_statement (statement s.now) }
+    ensures { result ≡ place_of (unbuilt_statement (statement s.now)) }
 {
     match s {
         Stmt::Skip => None,
@@ -65,15 +69,47 @@ fn of_statement(s: &Stmt) -> Option<Place>
             value,
         } => of_assignment(*place, target, value),
         Stmt::Delay { .. } => None,
-        Stmt::Seq { parts, .. } => of_parts(parts.as_slice()),
         Stmt::Send { place, .. } => Some(*place),
         Stmt::Recv { place, .. } => Some(*place),
         Stmt::Prialt { place, .. } => Some(*place),
-        Stmt::Par { place, .. } => Some(*place),
-        Stmt::If { place, .. } => Some(*place),
-        Stmt::While { place, .. } => Some(*place),
-        Stmt::DoWhile { place, .. } => Some(*place),
-        Stmt::Switch { place, .. } => Some(*place),
+        Stmt::Seq { parts, .. } => of_parts(parts.as_slice()),
+        Stmt::Par { branches, .. } => of_parts(branches.as_slice()),
+        Stmt::If {
+            place,
+            condition,
+            yes,
+            no,
+        } => match unless_built(*place, condition) {
+            Some(place) => Some(place),
+            None => match of_statement(yes.get()) {
+                Some(place) => Some(place),
+                None => of_statement(no.get()),
+            },
+        },
+        Stmt::While {
+            place,
+            condition,
+            body,
+        } => match unless_built(*place, condition) {
+            Some(place) => Some(place),
+            None => of_statement(body.get()),
+        },
+        Stmt::DoWhile {
+            place,
+            body,
+            condition,
+        } => match unless_built(*place, condition) {
+            Some(place) => Some(place),
+            None => of_statement(body.get()),
+        },
+        Stmt::Switch {
+            place,
+            selector,
+            arms,
+        } => match unless_built(*place, selector) {
+            Some(place) => Some(place),
+            None => of_arms(arms.as_slice()),
+        },
     }
 }
 
@@ -81,7 +117,7 @@ fn of_statement(s: &Stmt) -> Option<Place>
 #[cycle(unbuilt)]
 #[tactic(auto, using(hc_core::proofs::Read::reading))]
 fn of_parts(parts: &[Stmt]) -> Option<Place>
-    ensures { result ≡ unbuilt_parts (statements parts.now) }
+    ensures { result ≡ place_of (unbuilt_parts (statements parts.now)) }
 {
     let mut rest = parts;
     while let [first, behind @ ..] = rest {
@@ -94,9 +130,37 @@ fn of_parts(parts: &[Stmt]) -> Option<Place>
     None
 }
 
+/// The place of the first arm that has a statement within it that isn't built.
+#[cycle(unbuilt)]
+#[tactic(auto, using(hc_core::proofs::Read::reading))]
+fn of_arms(list: &[Arm]) -> Option<Place>
+    ensures { result ≡ place_of (unbuilt_arms (arms list.now)) }
+{
+    let mut rest = list;
+    while let [first, behind @ ..] = rest {
+        match of_statement(&first.body) {
+            Some(place) => return Some(place),
+            None => {}
+        }
+        rest = behind;
+    }
+    None
+}
+
+/// The place of a statement, where its condition isn't built.
+fn unless_built(place: Place, e: &Expr) -> Option<Place>
+    ensures { result ≡ place_of (here_or place (nameless (not (forms.is_built_expression (expression e.now)))) None) }
+{
+    if is_built_expression(e) {
+        None
+    } else {
+        Some(place)
+    }
+}
+
 /// The place of an assignment that isn't built.
 fn of_assignment(place: Place, to: &Target, value: &Expr) -> Option<Place>
-    ensures { result ≡ unbuilt_statement (Assign place (target to.now) (expression value.now)) }
+    ensures { result ≡ place_of (unbuilt_statement (Assign place (target to.now) (expression value.now))) }
 {
     if is_built_target(to) && is_built_expression(value) {
         None
@@ -108,7 +172,7 @@ fn of_assignment(place: Place, to: &Target, value: &Expr) -> Option<Place>
 /// Whether a target is built.
 #[tactic(auto, using(hc_core::proofs::Read::reading))]
 fn is_built_target(to: &Target) -> bool
-    ensures { result ≡ built.is_built_target (target to.now) }
+    ensures { result ≡ forms.is_built_target (target to.now) }
 {
     match to {
         Target::Reg(_) => true,
@@ -121,7 +185,7 @@ fn is_built_target(to: &Target) -> bool
 /// Whether an expression is built. The recursion is as deep as it is nested.
 #[tactic(auto, using(hc_core::proofs::Read::reading))]
 fn is_built_expression(e: &Expr) -> bool
-    ensures { result ≡ built.is_built_expression (expression e.now) }
+    ensures { result ≡ forms.is_built_expression (expression e.now) }
 {
     match e {
         Expr::Const(_) => true,

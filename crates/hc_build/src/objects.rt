@@ -1,12 +1,12 @@
-ghost use Rattle.std.specs.Prelude.{◌≡◌, ◌<◌, ◌≤◌, ◌+◌, ◌*◌, ◌^◌, ◌++◌, [], length, map, replicate, None, IfOk, OnOk, All};
+ghost use Rattle.std.specs.Prelude.{◌≡◌, ◌<◌, ◌≤◌, ◌+◌, ◌*◌, ◌^◌, ◌++◌, [], length, map, replicate, IfOk, OnOk, All};
 ghost use Rattle.std.specs.List.{range_with_len};
 ghost use Rattle.hc_core.specs.Sound.{IsSound, HasLabelBytes, IsKind};
 ghost use Rattle.hc_core.specs.Typed.{kinds_of};
 ghost use Rattle.hc_core.specs.Weight.{weight_of};
 ghost use Rattle.hc_meaning.specs.Value.{bits_of, padded};
-ghost use Rattle.hc_net.specs.declared.node.Node.TheVariants.{Wire};
 ghost use Rattle.hc_rules.specs.Weight.{most_weight};
-ghost use Rattle.hc_build.specs.Objects.{AddsObject, AddsNodes, CanPlace, Places, net_count, word_flops, words_flops};
+ghost use Rattle.hc_control.specs.Right.{net_count};
+ghost use Rattle.hc_build.specs.Objects.{AddsObject, AddsNodes, CanPlace, Places, output_wire, word_flops, words_flops};
 
 use hc_core::{Core, Kind, Object, PinNames};
 use hc_net::{Builder, FlopName, GateKind, Label, Nets, NoMemory, Pins};
@@ -142,14 +142,14 @@ fn labels(alloc: Global, pins: &PinNames) -> Result<Pins, NoMemory>
     Ok(labels)
 }
 
-/// Placeholders for the bits of an output, which read no other placeholders.
+/// Placeholders for the bits of an output. Nothing reads them, so they have the highest rank and may read every other placeholder.
 fn wires(alloc: Global, b: &mut Builder, width: u32) -> Result<Nets, NoMemory>
     requires room { length b.old.nodes + width < 2 ^ 32 }
-    ensures { IfOk result (AddsNodes (replicate width (Wire 0 None)) [] b.old b.new) }
+    ensures { IfOk result (AddsNodes (replicate width output_wire) [] b.old b.new) }
 {
     let mut nets = Nets::new(alloc);
     for i in 0..width {
-        nets.push(b.wire(0)?)?;
+        nets.push(b.wire(u32::MAX)?)?;
     }
     Ok(nets)
 }

@@ -2,11 +2,13 @@ ghost use Rattle.std.specs.Prelude.{◌≡◌, ◌<◌, ◌+◌, ◌^◌, length
 ghost use Rattle.std.specs.List.{sum_by};
 ghost use Rattle.hc_core.specs.Typed.{kinds_of};
 ghost use Rattle.hc_core.specs.Weigh.{AreSound};
+ghost use Rattle.hc_control.specs.Uses.{AreThere};
+ghost use Rattle.hc_control.specs.Right.{HasPlaces};
 ghost use Rattle.hc_build.specs.Built.{is_built_kind};
-ghost use Rattle.hc_build.specs.Uses.{AreThere, HasPlaces, HasUses, all_next_gates, next_gates};
+ghost use Rattle.hc_build.specs.Uses.{HasUses, all_next_gates, next_gates};
 ghost use Rattle.hc_build.specs.Sources.{MakesSource, MakesSources, AreBuiltOutputs, output_gates};
 
-use crate::uses::ObjectUses;
+use hc_control::ObjectUses;
 use hc_core::{Core, Kind};
 use hc_net::{Builder, Nets, NoMemory};
 use hc_store::{hold, hold_array};

@@ -3,9 +3,9 @@ use Rattle.std.proofs.Common.{length, get_or, ap, arith}
 use Rattle.std.proofs.lemmas.List.{length-map}
 use Rattle.hc_core.specs.Typed.{kinds_of}
 use Rattle.hc_core.specs.declared.object.Object.{Object}
-use Rattle.hc_build.proofs.Nets.{places_kept}
+use Rattle.hc_control.proofs.UsesAdded.{there_kept}
+use Rattle.hc_control.proofs.UsesNets.{places_kept}
 use Rattle.hc_build.proofs.SourcesMade.{next_object, sources_none, sources_room, sources_more, sources_all}
-use Rattle.hc_build.proofs.UsesAdded.{there_kept}
 use Rattle.hc_build.proofs.sources.sources.Goals as goal
 
 pub loop-k-init : goal.loop-k-init
