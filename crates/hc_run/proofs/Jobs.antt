@@ -10,7 +10,7 @@ use Rattle.hc_outside.specs.Count.{HasRisen}
 use Rattle.hc_outside.specs.Store.{Files, Disk, StoreState, IsFile, IsMissing, IsLonger, SameFiles, Created, Appended, AppendedFront, Closed, created, appended, closed, MovesReads, MovesWrites}
 use Rattle.hc_outside.specs.SinkLemmas.{Moves-none, Moves-more}
 use Rattle.hc_outside.specs.FilesLemmas.{get-insert_same, insert-insert}
-use Rattle.hc_core.specs.Weight.{weight_of, flops_of}
+use Rattle.hc_core.specs.Weight.{weight_of}
 use Rattle.hc_core.specs.declared.object.Core.{Core}
 use Rattle.hc_net.specs.declared.net.RawNet.{RawNet}
 use Rattle.hc_run.specs.declared.due.Due.{Due}

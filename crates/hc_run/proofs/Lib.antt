@@ -1,5 +1,6 @@
 pub mod Adding
 pub mod Append
+pub mod Buildable
 pub mod Clauses
 pub mod EdifRows
 pub mod Jobs

@@ -18,8 +18,9 @@ use Rattle.hc_tree.specs.declared.item.Tree.{Tree}
 use Rattle.hc_parse.specs.Parsed.{Parses, FirstRefusal, HasTree, HasFirst}
 use Rattle.hc_scope.specs.Expands as expansion
 use Rattle.hc_expand.specs.Spelled.{IsSpelled}
+use Rattle.hc_core.specs.Rules.{first_broken}
 use Rattle.hc_rules.specs.Weight.{most_weight, too_heavy}
-use Rattle.hc_run.specs.Answer.{IsSource, Accepted, BreaksTokens, FirstOfCore, of_weight, of_form, not_built, FirstOfTokens, of_grammar, of_tree, of_core, First, of_bytes, of_tokens, IfRefusal, HasCore, HasRefusal}
+use Rattle.hc_run.specs.Answer.{IsSource, Accepted, BreaksTokens, FirstOfCore, of_rule, of_weight, of_form, not_built, FirstOfTokens, of_grammar, of_tree, of_core, First, of_bytes, of_tokens, IfRefusal, HasCore, HasRefusal}
 use Rattle.hc_build.specs.Built.{unbuilt, IsBuildable}
 use Rattle.hc_run.specs.Source.{IsTreeOf, FirstOfTree, of_expansion, of_expanded, IsUnbuilt}
 
@@ -42,7 +43,7 @@ refused bytes h (Err NoMemory) f = tt
 -- ---- what is read of the tree is so of the tokens
 
 pub source : (ts : List Placed) (tree : Tree) → Parses ts tree → (result : Result Core FrontErr) → IfOk result (IsTreeOf tree) → IfOk result (IsSource ts)
-source ts tree parses (Ok core) e = record { has_tree = record { tree = tree; parses = parses }; expands = e.expands; light = e.light; built = e.built }
+source ts tree parses (Ok core) e = record { has_tree = record { tree = tree; parses = parses }; expands = e.expands; rules = e.rules; light = e.light; built = e.built }
 source ts tree parses (Err e) f = tt
 
 broken_tree : (ts : List Placed) (end : Place) (tree : Tree) → Parses ts tree → (refusal : Refusal) → FirstOfTree tree refusal → FirstOfTokens ts end refusal
@@ -58,9 +59,10 @@ broken ts end tree parses (Err NoMemory) f = tt
 
 -- ---- what is read of the core is so of the tree
 
-pub tree_of : (tree : Tree) (core : Core) → expansion.Expands tree core → (result : Result Core FrontErr) → IfOk result (λ found. found ≡ core) → IfOk result IsBuildable → IfOk result (IsTreeOf tree)
-tree_of tree core expands (Ok found) same buildable = record { expands = subst (λ (c : Core). expansion.Expands tree c) (sym same) expands; light = buildable.light; built = buildable.built }
-tree_of tree core expands (Err e) same buildable = tt
+pub tree_of : (tree : Tree) (core : Core) → expansion.Expands tree core → (result : Result Core FrontErr) → IfOk result (λ found. found ≡ core) → IfOk result (λ found. first_broken found ≡ None)
+    → IfOk result IsBuildable → IfOk result (IsTreeOf tree)
+tree_of tree core expands (Ok found) same rules buildable = record { expands = subst (λ (c : Core). expansion.Expands tree c) (sym same) expands; rules = rules; light = buildable.light; built = buildable.built }
+tree_of tree core expands (Err e) same rules buildable = tt
 
 pub broken_core : (tree : Tree) (core : Core) → expansion.Expands tree core → (result : Result Core FrontErr) → IfErr result (λ e. IfRefusal e (FirstOfCore core))
     → IfErr result (λ e. IfRefusal e (FirstOfTree tree))
@@ -69,9 +71,9 @@ broken_core tree core expands (Err (Refused refusal)) f = of_expanded core expan
 broken_core tree core expands (Err NoMemory) f = tt
 
 -- what of its form comes behind its weight
-pub broken_form : {A : Type 0} (core : Core) → weight_of core ≤ most_weight → (result : Result A Refusal) → IfErr result (IsUnbuilt core) → IfErr result (FirstOfCore core)
-broken_form core light (Ok found) f = tt
-broken_form core light (Err refusal) f = of_form light f.place f.first f.is
+pub broken_form : {A : Type 0} (core : Core) → first_broken core ≡ None → weight_of core ≤ most_weight → (result : Result A Refusal) → IfErr result (IsUnbuilt core) → IfErr result (FirstOfCore core)
+broken_form core rules light (Ok found) f = tt
+broken_form core rules light (Err refusal) f = of_form rules light f.place f.first f.is
 
 -- ---- the laws, from those of the tokens
 
@@ -147,12 +149,13 @@ breach {refusal = refusal} h = record { rule = refusal.rule; place = refusal.pla
 moved : (ts us : List Placed) (end other : Place) (refusal : Refusal) → ts ≡ us → end ≡ other → FirstOfTokens ts end refusal → FirstOfTokens us other refusal
 moved ts us end other refusal e f h = subst (λ a. FirstOfTokens us a refusal) f (subst (λ (z : List Placed). FirstOfTokens z end refusal) e h)
 
-no_form : {o : Option Place} {place : Place} → o ≡ None → o ≡ Some place → ⊥
-no_form p q = cc
+none_and_some : {A : Type 0} {o : Option A} {a : A} → o ≡ None → o ≡ Some a → ⊥
+none_and_some p q = cc
 
-sound_core : (core : Core) (refusal : Refusal) → weight_of core ≤ most_weight → unbuilt core ≡ None → FirstOfCore core refusal → ⊥
-sound_core core refusal light built (of_weight heavy is) = omega arith
-sound_core core refusal light built (of_form within place first is) = no_form built first
+sound_core : (core : Core) (refusal : Refusal) → first_broken core ≡ None → weight_of core ≤ most_weight → unbuilt core ≡ None → FirstOfCore core refusal → ⊥
+sound_core core refusal rules light built (of_rule broken) = none_and_some rules broken
+sound_core core refusal rules light built (of_weight kept heavy is) = omega arith
+sound_core core refusal rules light built (of_form kept within place first is) = none_and_some built first
 
 source_or_refusal : OneTree → NoRefusal → OneCore → NoStop → (ts : List Placed) (end : Place) (core : Core) (refusal : Refusal) → IsSource ts core → FirstOfTokens ts end refusal → ⊥
 source_or_refusal trees none one no_stop ts end core refusal h (of_grammar k) = none ts end h.has_tree.tree refusal h.has_tree.parses k
@@ -160,7 +163,7 @@ source_or_refusal trees none one no_stop ts end core refusal h (of_tree k) =
     no_stop k.has_tree.tree core refusal (moved_core _ _ _ (same_tree trees ts h.has_tree k.has_tree) h.expands) k.stops
 source_or_refusal trees none one no_stop ts end core refusal h (of_core k) =
     let same : k.core ≡ core = one k.has_tree.tree k.core core k.expands (moved_core _ _ _ (same_tree trees ts h.has_tree k.has_tree) h.expands) in
-    sound_core core refusal h.light h.built (subst (λ (c : Core). FirstOfCore c refusal) same k.breaks)
+    sound_core core refusal h.rules h.light h.built (subst (λ (c : Core). FirstOfCore c refusal) same k.breaks)
 
 pub never_both : OneReading → NotBoth → OneTree → NoRefusal → OneCore → NoStop → (bytes : List ℕ) (core : Core) (refusal : Refusal) → Accepted bytes core → First bytes refusal → ⊥
 never_both reading both trees none one no_stop bytes core refusal h (of_bytes k) = both 0 start bytes h.lexed (breach k)
@@ -176,14 +179,19 @@ refusal_of rule place detail = record { rule = rule; place = place; detail = det
 same_refusal : {r s : Refusal} → r.rule ≡ s.rule → r.place ≡ s.place → r.detail ≡ s.detail → r ≡ s
 same_refusal {r} {s} a b c = ap (λ rule. refusal_of rule r.place r.detail) a ∙ ap (λ place. refusal_of s.rule place r.detail) b ∙ ap (refusal_of s.rule s.place) c
 
-same_form : {o : Option Place} {a b : Place} → o ≡ Some a → o ≡ Some b → a ≡ b
-same_form p q = cc
+same_some : {A : Type 0} {o : Option A} {a b : A} → o ≡ Some a → o ≡ Some b → a ≡ b
+same_some p q = cc
 
 one_of_core : (core : Core) (refusal other : Refusal) → FirstOfCore core refusal → FirstOfCore core other → refusal ≡ other
-one_of_core core refusal other (of_weight heavy is) (of_weight more same) = is ∙ sym same
-one_of_core core refusal other (of_weight heavy is) (of_form light place first same) = absurd (omega arith)
-one_of_core core refusal other (of_form light place first is) (of_weight heavy same) = absurd (omega arith)
-one_of_core core refusal other (of_form light place first is) (of_form within behind second same) = is ∙ ap not_built (same_form first second) ∙ sym same
+one_of_core core refusal other (of_rule first) (of_rule second) = same_some first second
+one_of_core core refusal other (of_rule first) (of_weight rules heavy is) = absurd (none_and_some rules first)
+one_of_core core refusal other (of_rule first) (of_form rules light place second is) = absurd (none_and_some rules first)
+one_of_core core refusal other (of_weight rules heavy is) (of_rule second) = absurd (none_and_some rules second)
+one_of_core core refusal other (of_weight rules heavy is) (of_weight kept more same) = is ∙ sym same
+one_of_core core refusal other (of_weight rules heavy is) (of_form kept light place first same) = absurd (omega arith)
+one_of_core core refusal other (of_form rules light place first is) (of_rule second) = absurd (none_and_some rules second)
+one_of_core core refusal other (of_form rules light place first is) (of_weight kept heavy same) = absurd (omega arith)
+one_of_core core refusal other (of_form rules light place first is) (of_form kept within behind second same) = is ∙ ap not_built (same_some first second) ∙ sym same
 
 module _ (trees : OneTree) (one : OneRefusal) (none : NoRefusal) (cores : OneCore) (stops : OneStop) (no_stop : NoStop) where
   one_of_tokens : (ts : List Placed) (end : Place) (refusal other : Refusal) → FirstOfTokens ts end refusal → FirstOfTokens ts end other → refusal ≡ other
@@ -213,22 +221,28 @@ module _ (trees : OneTree) (one : OneRefusal) (none : NoRefusal) (cores : OneCor
 
 -- ---- a core or a refusal
 
-of_built : (bytes : List ℕ) (h : HasTokens 0 start bytes) (t : HasTree h.tokens) (core : Core) → expansion.Expands t.tree core → weight_of core ≤ most_weight → (o : Option Place) → unbuilt core ≡ o
-    → HasCore bytes ⊎ HasRefusal bytes
-of_built bytes h t core expands light None e =
-    inl (record { core = core; accepted = record { lexed = h; source = record { has_tree = t; expands = expands; light = light; built = e } } })
-of_built bytes h t core expands light (Some place) e =
-    inr (record { refusal = not_built place; first = of_tokens (record { lexed = h; breaks = of_core (record { has_tree = t; core = core; expands = expands; breaks = of_form light place e refl }) }) })
+of_built : (bytes : List ℕ) (h : HasTokens 0 start bytes) (t : HasTree h.tokens) (core : Core) → expansion.Expands t.tree core → first_broken core ≡ None → weight_of core ≤ most_weight
+    → (o : Option Place) → unbuilt core ≡ o → HasCore bytes ⊎ HasRefusal bytes
+of_built bytes h t core expands rules light None e =
+    inl (record { core = core; accepted = record { lexed = h; source = record { has_tree = t; expands = expands; rules = rules; light = light; built = e } } })
+of_built bytes h t core expands rules light (Some place) e =
+    inr (record { refusal = not_built place; first = of_tokens (record { lexed = h; breaks = of_core (record { has_tree = t; core = core; expands = expands; breaks = of_form rules light place e refl }) }) })
 
-of_weighed : (bytes : List ℕ) (h : HasTokens 0 start bytes) (t : HasTree h.tokens) (core : Core) → expansion.Expands t.tree core → (most_weight < weight_of core) ⊎ (weight_of core ≤ most_weight)
+of_weighed : (bytes : List ℕ) (h : HasTokens 0 start bytes) (t : HasTree h.tokens) (core : Core) → expansion.Expands t.tree core → first_broken core ≡ None
+    → (most_weight < weight_of core) ⊎ (weight_of core ≤ most_weight) → HasCore bytes ⊎ HasRefusal bytes
+of_weighed bytes h t core expands rules (inr light) = of_built bytes h t core expands rules light (unbuilt core) refl
+of_weighed bytes h t core expands rules (inl heavy) =
+    inr (record { refusal = too_heavy; first = of_tokens (record { lexed = h; breaks = of_core (record { has_tree = t; core = core; expands = expands; breaks = of_weight rules heavy refl }) }) })
+
+of_ruled : (bytes : List ℕ) (h : HasTokens 0 start bytes) (t : HasTree h.tokens) (core : Core) → expansion.Expands t.tree core → (o : Option Refusal) → first_broken core ≡ o
     → HasCore bytes ⊎ HasRefusal bytes
-of_weighed bytes h t core expands (inr light) = of_built bytes h t core expands light (unbuilt core) refl
-of_weighed bytes h t core expands (inl heavy) =
-    inr (record { refusal = too_heavy; first = of_tokens (record { lexed = h; breaks = of_core (record { has_tree = t; core = core; expands = expands; breaks = of_weight heavy refl }) }) })
+of_ruled bytes h t core expands None e = of_weighed bytes h t core expands e (cases_lt most_weight (weight_of core))
+of_ruled bytes h t core expands (Some refusal) e =
+    inr (record { refusal = refusal; first = of_tokens (record { lexed = h; breaks = of_core (record { has_tree = t; core = core; expands = expands; breaks = of_rule e }) }) })
 
 of_expansion_or : (bytes : List ℕ) (h : HasTokens 0 start bytes) (t : HasTree h.tokens) → ((core : Core) × expansion.Expands t.tree core) ⊎ ((refusal : Refusal) × expansion.Stops t.tree refusal)
     → HasCore bytes ⊎ HasRefusal bytes
-of_expansion_or bytes h t (inl k) = of_weighed bytes h t k.0 k.1 (cases_lt most_weight (weight_of k.0))
+of_expansion_or bytes h t (inl k) = of_ruled bytes h t k.0 k.1 (first_broken k.0) refl
 of_expansion_or bytes h t (inr k) = inr (record { refusal = k.0; first = of_tokens (record { lexed = h; breaks = of_tree (record { has_tree = t; stops = k.1 }) }) })
 
 of_tree_or_refusal : CoreOrStop → (bytes : List ℕ) (h : HasTokens 0 start bytes) → HasTree h.tokens ⊎ HasFirst h.tokens h.end → HasCore bytes ⊎ HasRefusal bytes

@@ -19,6 +19,7 @@ use Rattle.hc_tree.specs.declared.refusal.Refusal.{Refusal}
 use Rattle.hc_core.specs.Weight.{weight_of, flops_of}
 use Rattle.hc_core.specs.declared.object.Core.{Core}
 use Rattle.hc_scope.specs.Expands as tree
+use Rattle.hc_core.specs.Rules.{first_broken}
 use Rattle.hc_rules.specs.Weight.{most_weight, too_heavy}
 use Rattle.hc_net.specs.declared.net.RawNet.{RawNet}
 use Rattle.hc_net.specs.Valid.{IsValid}
@@ -36,10 +37,12 @@ use Rattle.hc_run.specs.Lines.{built_line, checked_line, usage_line, read_fault_
 abbrev pub source_limit : ℕ
 source_limit = 4194304
 
--- The tokens have a tree that expands to this core, which is within the limit of the weight and of built forms alone.
+-- The tokens have a tree that expands to this core, which breaks no rule over the core, is within the limit of the weight and is
+-- of built forms alone.
 pub record IsSource (tokens : List Placed) (core : Core) : Type 0 where
   pub has_tree : HasTree tokens
   pub expands : tree.Expands has_tree.tree core
+  pub rules : first_broken core ≡ None
   pub light : weight_of core ≤ most_weight
   pub built : unbuilt core ≡ None
 
@@ -57,10 +60,12 @@ pub record BreaksTokens (bytes : List ℕ) (refusal : Refusal) : Type 0 where
 abbrev pub not_built : Place → Refusal
 not_built place = record { rule = NotBuilt; place = place; detail = Nothing }
 
--- A core breaks a rule, and this refusal comes first: the limit of the weight, then the first form that isn't built.
+-- A core breaks a rule, and this refusal comes first: that of the rules over the core, then the limit of the weight, then the first
+-- form that isn't built.
 pub data FirstOfCore (core : Core) (refusal : Refusal) : Type 0 where
-  of_weight : most_weight < weight_of core → refusal ≡ too_heavy → FirstOfCore core refusal
-  of_form : weight_of core ≤ most_weight → (place : Place) → unbuilt core ≡ Some place → refusal ≡ not_built place → FirstOfCore core refusal
+  of_rule : first_broken core ≡ Some refusal → FirstOfCore core refusal
+  of_weight : first_broken core ≡ None → most_weight < weight_of core → refusal ≡ too_heavy → FirstOfCore core refusal
+  of_form : first_broken core ≡ None → weight_of core ≤ most_weight → (place : Place) → unbuilt core ≡ Some place → refusal ≡ not_built place → FirstOfCore core refusal
 
 -- The tokens have a tree, which breaks a rule or limit before it has a core; this refusal is the first.
 pub record BreaksTree (tokens : List Placed) (refusal : Refusal) : Type 0 where

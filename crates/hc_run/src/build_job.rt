@@ -1,9 +1,10 @@
-ghost use Rattle.std.specs.Prelude.{◌≡◌, ◌≤◌, ◌⊎◌, false, true, List, ℕ, map, length, OnOk, OnErr, IsErrOf};
+ghost use Rattle.std.specs.Prelude.{◌≡◌, ◌≤◌, ◌⊎◌, false, true, List, ℕ, map, length, IfOk, OnOk, OnErr, IsErrOf};
 ghost use Rattle.std.specs.String.{string_bytes};
 ghost use Rattle.hc_outside.specs.Count.{HasRisen};
 ghost use Rattle.hc_outside.specs.Store.{SameFiles, Appended, AppendedFront, MovesWrites};
 ghost use Rattle.hc_net.specs.Valid.{IsValid};
 ghost use Rattle.hc_build.specs.Built.{IsBuildable};
+ghost use Rattle.hc_build.specs.Implements.{IsNetlistOf};
 ghost use Rattle.hc_run.specs.Edif.{edif};
 ghost use Rattle.hc_run.specs.Words.{IsBuild};
 ghost use Rattle.hc_run.specs.Answer.{source_limit, Saved, HoldsFront, MovesCounts};
@@ -17,7 +18,8 @@ use crate::status::Role;
 use crate::words::{Job, read_words};
 use hc_build::build;
 use hc_core::Core;
-use hc_net::RawNet;
+use hc_cycle::order;
+use hc_net::{Net, NoMemory, RawNet};
 use hc_outside::{LoadErr, OpenFile, Store, StoreErr, WriteErr};
 use hc_tree::FrontErr;
 use std::alloc::Global;
@@ -92,13 +94,29 @@ fn build_core<S: Store>(
     ensures builds { BuildsCore core.now name.now (S.state store.old) (S.state store.new) result }
     ensures counts { MovesWrites (S.state store.old) (S.state store.new) }
 {
-    match build(alloc, core) {
+    match net_of(alloc, core) {
         Ok(net) => {
             let due = save_net(alloc, net.raw(), name, store);
             drop(net);
             due
         }
         Err(_) => Err(WriteErr::NoMemory),
+    }
+}
+
+/// The netlist of a core. Nothing in a core of built forms depends on a value of the same clock, so that no order is refused.
+fn net_of(alloc: Global, core: &Core) -> Result<Net, NoMemory>
+    requires { IsBuildable core.now }
+    ensures { IfOk result (IsNetlistOf core.now) }
+{
+    match order(alloc, core) {
+        Ok(ranks) => {
+            let net = build(alloc, core, &ranks);
+            drop(ranks);
+            net
+        }
+        Err(FrontErr::NoMemory) => Err(NoMemory),
+        Err(FrontErr::Refused(_refusal)) => unreachable!(),
     }
 }
 

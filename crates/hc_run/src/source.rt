@@ -6,6 +6,7 @@ ghost use Rattle.hc_expand.specs.Spelled.{IsSpelled};
 ghost use Rattle.hc_lex.specs.Lexes.{IsPlain};
 ghost use Rattle.hc_core.specs.Sound.{IsSound};
 ghost use Rattle.hc_core.specs.Weight.{weight_of};
+ghost use Rattle.hc_core.specs.Rules.{first_broken};
 ghost use Rattle.hc_rules.specs.Weight.{most_weight};
 ghost use Rattle.hc_run.specs.Answer.{source_limit, IsSource, Accepted, FirstOfCore, FirstOfTokens, First, IfRefusal};
 ghost use Rattle.hc_build.specs.Built as built;
@@ -18,7 +19,7 @@ use hc_core::Core;
 use hc_expand::expand;
 use hc_lex::{Tokens, lex, tokens_are_plain};
 use hc_parse::parse;
-use hc_rules::check_weight;
+use hc_rules::{check_rules, check_weight};
 use hc_tree::{Detail, FrontErr, Place, Refusal, Rule, Tree};
 use std::alloc::Global;
 
@@ -26,7 +27,7 @@ use std::alloc::Global;
 pub const SOURCE_LIMIT: u64 = 4_194_304;
 
 /// The core of a source, or its first refusal: S1, L1 or L2 of its bytes, then S3, L3 or S2 of its tokens, then the first
-/// of S23, S4 to S15, S24, L4 to L7 and L9 of its tree, and then L8 and `NotBuilt` of its core.
+/// of S23, S4 to S15, S24, L4 to L7 and L9 of its tree, and then S16, S18 to S22, L8 and `NotBuilt` of its core.
 pub fn read_source(alloc: Global, bytes: &[u8]) -> Result<Core, FrontErr>
     requires { length bytes.now ≤ source_limit }
     ensures accepted { IfOk result (Accepted bytes.now) }
@@ -69,30 +70,49 @@ fn read_tree(alloc: Global, tree: &Tree) -> Result<Core, FrontErr>
     ensures refused { IfErr result (λ e. IfRefusal e (FirstOfTree tree.now)) }
 {
     match expand(alloc, tree) {
-        Ok(core) => checked(core),
+        Ok(core) => checked(alloc, core),
         Err(e) => Err(e),
     }
 }
 
 /// A core that can be built, or its first refusal.
-fn checked(core: Core) -> Result<Core, FrontErr>
+fn checked(alloc: Global, core: Core) -> Result<Core, FrontErr>
     requires { IsSound core }
     ensures same { IfOk result (λ found. found ≡ core) }
+    ensures rules { IfOk result (λ found. first_broken found ≡ None) }
     ensures buildable { IfOk result IsBuildable }
     ensures refused { IfErr result (λ e. IfRefusal e (FirstOfCore core)) }
 {
-    match check_core(&core) {
+    match check_core(alloc, &core) {
         Ok(()) => Ok(core),
-        Err(refusal) => {
+        Err(e) => {
             drop(core);
-            Err(FrontErr::Refused(refusal))
+            Err(e)
         }
     }
 }
 
-/// That a core can be built, or its first refusal: L8, and then `NotBuilt`.
-fn check_core(core: &Core) -> Result<(), Refusal>
+/// That a core can be built, or its first refusal: S16, then S18 to S22, then L8, and then `NotBuilt`.
+fn check_core(alloc: Global, core: &Core) -> Result<(), FrontErr>
     requires { IsSound core.now }
+    ensures rules { IfOk result (λ _. first_broken core.now ≡ None) }
+    ensures light { IfOk result (λ _. weight_of core.now ≤ most_weight) }
+    ensures built { IfOk result (λ _. built.unbuilt core.now ≡ None) }
+    ensures refused { IfErr result (λ e. IfRefusal e (FirstOfCore core.now)) }
+{
+    match check_rules(alloc, core) {
+        Ok(()) => match check_size(core) {
+            Ok(()) => Ok(()),
+            Err(refusal) => Err(FrontErr::Refused(refusal)),
+        },
+        Err(e) => Err(e),
+    }
+}
+
+/// That a core which breaks none of these rules can be built, or its first refusal: L8, and then `NotBuilt`.
+fn check_size(core: &Core) -> Result<(), Refusal>
+    requires sound { IsSound core.now }
+    requires rules { first_broken core.now ≡ None }
     ensures light { IfOk result (λ _. weight_of core.now ≤ most_weight) }
     ensures built { IfOk result (λ _. built.unbuilt core.now ≡ None) }
     ensures refused { IfErr result (FirstOfCore core.now) }

@@ -1,4 +1,4 @@
-use Rattle.std.proofs.Common.{◌≡◌, ◌∙◌, ◌∷◌, []}
+use Rattle.std.proofs.Common.{◌∙◌}
 use Rattle.std.specs.String.{string_bytes}
 use Rattle.hc_run.proofs.JobWords.{four_words, job_of_four}
 use Rattle.hc_run.proofs.words.read_words.Goals as goal
