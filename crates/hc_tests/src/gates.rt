@@ -1,4 +1,4 @@
-//! Sources as netlists that run: what their registers, arrays and outputs hold clock by clock.
+//! Sources with threads as netlists that run: what their registers hold edge by edge.
 
 ghost use Rattle.std.specs.Prelude.{◌≡◌, ◌<◌, ◌+◌, ◌-◌, ◌^◌, length, IfOk, OnOk, IsTrue};
 ghost use Rattle.hc_build.specs.Built.{IsBuildable};
@@ -6,15 +6,14 @@ ghost use Rattle.hc_stim.specs.Bench.{AreInputs};
 ghost use Rattle.hc_netsim.specs.Running.{input_widths, output_count};
 
 use hc_build::build;
-use hc_core::{Core, Kind, Object};
+use hc_core::Core;
+use hc_cycle::order;
 use hc_net::{FlopName, Net, Port};
 use hc_netsim::Gates;
 use hc_run::{SOURCE_LIMIT, read_source};
 use hc_stim::Bench;
 use std::alloc::Global;
 use std::test::Fail;
-
-mod operators;
 
 /// The core of a source, which can be built.
 fn core_of(alloc: Global, source: &[u8]) -> Result<Core, Fail>
@@ -69,147 +68,135 @@ fn add_places(places: &mut Vec<u128>, ports: &[Port]) -> Result<(), Fail>
     }
 }
 
-/// The numbers of a text, with single spaces between; `-` has none.
-fn numbers(alloc: Global, text: &str) -> Result<Vec<u128>, Fail> {
-    let mut numbers = Vec::new(alloc);
-    if text == "-" {
-        return Ok(numbers);
-    }
-    for word in text.split(' ') {
-        numbers.push(word.parse::<u128>()?)?;
-    }
-    Ok(numbers)
-}
-
-/// The number that the flip-flops of an object hold from bit `from` on.
-fn held(gates: &Gates, object: u32, from: u32, width: u32) -> u128 {
+/// The number that the flip-flops of a register hold.
+fn held(gates: &Gates, register: u32, width: u32) -> u128 {
     let mut number = 0u128;
-    for i in 0..width.min(128) {
-        let bit = from.saturating_add(i);
-        if gates.flop(FlopName::Bit { object, bit }) == Some(true) {
-            number |= 1u128 << i;
+    for bit in 0..width.min(128) {
+        let name = FlopName::Bit {
+            object: register,
+            bit,
+        };
+        if gates.flop(name) == Some(true) {
+            number |= 1u128 << bit;
         }
     }
     number
 }
 
-/// Adds the numbers of an object's registers to a text, those of an array in brackets.
-fn put_object(
-    text: &mut String,
+/// Whether a register holds these numbers at the edges from edge 0 on. The one input has a number for each clock of the
+/// stimulus, which is empty where there is no input.
+fn runs(
     alloc: Global,
-    gates: &Gates,
-    k: u32,
-    kind: &Kind,
-) -> Result<(), Fail> {
-    match kind {
-        Kind::Reg { width, .. } => {
-            let number = held(gates, k, 0, *width);
-            text.push_str(format!(in alloc; " {number}")?.as_str())?;
-        }
-        Kind::Array { width, length, .. } => {
-            text.push_str(" [")?;
-            for e in 0..*length {
-                let number = held(gates, k, e.saturating_mul(*width), *width);
-                text.push_str(format!(in alloc; " {number}")?.as_str())?;
-            }
-            text.push_str(" ]")?;
-        }
-        _ => {}
-    }
-    Ok(())
-}
-
-/// Adds those of all objects.
-fn put_objects(
-    text: &mut String,
-    alloc: Global,
-    gates: &Gates,
-    objects: &[Object],
-) -> Result<(), Fail> {
-    for (k, object) in objects.iter().enumerate() {
-        let Ok(k) = u32::try_from(k) else {
-            return Err("too many objects")?;
-        };
-        put_object(text, alloc, gates, k, &object.kind)?;
-    }
-    Ok(())
-}
-
-/// Adds the numbers of the outputs to a text.
-fn put_outputs(text: &mut String, alloc: Global, outputs: &[u128]) -> Result<(), Fail> {
-    text.push_str(" >")?;
-    for output in outputs {
-        text.push_str(format!(in alloc; " {output}")?.as_str())?;
-    }
-    text.push_str(",")?;
-    Ok(())
-}
-
-/// Runs a netlist, a clock for each piece of the stimulus between commas: for each clock the registers and arrays at the edge
-/// before it, and behind `>` the outputs in it.
-fn shown(alloc: Global, core: &Core, net: &Net, stimulus: &str) -> Result<String, Fail> {
+    net: &Net,
+    register: u32,
+    width: u32,
+    stimulus: &[u128],
+    want: &[u128],
+) -> Result<bool, Fail> {
     let ports = net.raw().ports.as_slice();
     let mut gates = Gates::start(alloc, net)?;
-    let mut text = String::new(alloc);
-    for line in stimulus.split(',') {
-        let inputs = numbers(alloc, line)?;
-        if !fit(ports, inputs.as_slice()) {
+    for t in 0..want.len() {
+        if held(&gates, register, width) != want[t] {
+            return Ok(false);
+        }
+        let inputs = if t < stimulus.len() {
+            &stimulus[t..t + 1]
+        } else {
+            &[]
+        };
+        if !fit(ports, inputs) {
             return Err("no such inputs")?;
         }
-        put_objects(&mut text, alloc, &gates, core.objects.as_slice())?;
         let mut outputs = Vec::new(alloc);
         add_places(&mut outputs, ports)?;
-        gates.clock(inputs.as_slice(), outputs.as_mut_slice());
-        put_outputs(&mut text, alloc, outputs.as_slice())?;
+        gates.clock(inputs, outputs.as_mut_slice());
     }
-    Ok(text)
+    Ok(true)
 }
 
-/// What the netlist of a source shows on a stimulus.
-fn shown_of(alloc: Global, source: &str, stimulus: &str) -> Result<String, Fail> {
+/// The same of the netlist of a core.
+fn core_runs(
+    alloc: Global,
+    core: &Core,
+    register: u32,
+    width: u32,
+    stimulus: &[u128],
+    want: &[u128],
+) -> Result<bool, Fail>
+    requires { IsBuildable core.now }
+{
+    let Ok(ranks) = order(alloc, core) else {
+        return Err("no order")?;
+    };
+    let net = build(alloc, core, &ranks)?;
+    runs(alloc, &net, register, width, stimulus, want)
+}
+
+/// The same of the netlist of a source.
+fn source_runs(
+    alloc: Global,
+    source: &str,
+    register: u32,
+    width: u32,
+    stimulus: &[u128],
+    want: &[u128],
+) -> Result<bool, Fail> {
     let core = core_of(alloc, source.as_bytes())?;
-    let found = shown_of_core(alloc, &core, stimulus);
+    let found = core_runs(alloc, &core, register, width, stimulus, want);
     drop(core);
     found
 }
 
-/// What the netlist of a core shows on a stimulus.
-fn shown_of_core(alloc: Global, core: &Core, stimulus: &str) -> Result<String, Fail>
-    requires { IsBuildable core.now }
-{
-    let net = build(alloc, core)?;
-    shown(alloc, core, &net, stimulus)
-}
+const EXCHANGE: &str =
+    "set clock = external \"clk\"; static unsigned 4 a = 1; static unsigned 4 b = 2;
+void main(void) { par { a = b; b = a; } }";
 
-/// Declarations, statements, and a stimulus, with `|` between, and what is shown. `#` ends a row.
-const ROWS: &str = "unsigned 4 x;|x = 5; delay; x = x + 1;|-,-,-,-,-~> 0 >, 5 >, 5 >, 6 >, 6 >,#\
-unsigned 4 x;|seq (i = 0; i < 3; ++i) { x = i; }|-,-,-,-~> 0 >, 0 >, 1 >, 2 >,#\
-unsigned 4 x = 7; unsigned 4 z; unsigned 4 q; unsigned 4 r; int 4 s = -8; int 4 t;|q = x / z; r = x % z; t = s >> 1;|-,-,-,-,-~> 7 0 0 0 8 0 >, 7 0 15 0 8 0 >, 7 0 15 7 8 0 >, 7 0 15 7 8 12 >, 7 0 15 7 8 12 >,#\
-unsigned 4 x; interface bus_out() o(unsigned 4 y = x + 1);|x = 15;|-,-,-~> 0 > 1, 15 > 0, 15 > 0,#\
-unsigned 128 x = 3; unsigned 128 y;|y = x * x; y = y - 10;|-,-,-~> 3 0 >, 3 9 >, 3 340282366920938463463374607431768211455 >,#\
-unsigned 128 x = 340282366920938463463374607431768211455;|x = x + 1;|-,-,-~> 340282366920938463463374607431768211455 >, 0 >, 0 >,#\
-unsigned 8 x = 200; unsigned 4 y = 9;|x = (unsigned 4) 0 @ y;|-,-~> 200 9 >, 9 9 >,#\
-unsigned 4 a[3] = {1, 2, 3}; unsigned 2 i = 3; unsigned 4 x = 9;|x = a[i]; a[i] = 7;|-,-,-~> [ 1 2 3 ] 3 9 >, [ 1 2 3 ] 3 0 >, [ 1 2 3 ] 3 0 >,#\
-unsigned 4 a[3] = {1, 2}; unsigned 2 k;|a[k] = 5; k = 2; a[k] = a[0] + a[1]; a[1] = 9; k = k + 1; a[2] = a[k];|-,-,-,-,-,-,-~> [ 1 2 0 ] 0 >, [ 5 2 0 ] 0 >, [ 5 2 0 ] 2 >, [ 5 2 7 ] 2 >, [ 5 9 7 ] 2 >, [ 5 9 7 ] 3 >, [ 5 9 0 ] 3 >,#\
-interface bus_in(unsigned 4 p) i(); unsigned 4 x;|x = i.p; x = x + i.p; delay; x = x - i.p;|3,5,9,1,0~> 0 >, 3 >, 8 >, 8 >, 7 >,#\
-interface bus_in(unsigned 4 p) i(); interface bus_out() o(unsigned 4 q = i.p - 1); interface bus_in(unsigned 3 p) j(); interface bus_out() e(unsigned 3 q = ~j.p);||7 2,0 7,15 0~> > 6 5, > 15 0, > 14 7,#\
-unsigned 4 x = 1; unsigned 4 y = 2;|x = y; y = x; x = x + y;|-,-,-,-~> 1 2 >, 2 2 >, 2 2 >, 4 2 >,#\
-||-,-~> >, >,";
+const UNEQUAL_BRANCHES: &str = "set clock = external \"clk\"; unsigned 1 x; unsigned 1 y;
+void main(void) { par { { delay; delay; } x = 1; } y = 1; }";
 
-/// What the netlist of a row shows.
-fn shown_of_row(alloc: Global, row: &str) -> Result<String, Fail> {
-    let (declarations, rest) = row.split_once('|').ok_or("no declarations")?;
-    let (statements, stimulus) = rest.split_once('|').ok_or("no statements")?;
-    let source = crate::jobs::sources::source(alloc, declarations, statements)?;
-    shown_of(alloc, source.as_str(), stimulus)
-}
+const WITHOUT_A_CLOCK: &str =
+    "set clock = external \"clk\"; interface bus_in(unsigned 1 x) i(); unsigned 4 a; unsigned 4 b;
+void main(void) { while (1) { if (i.x) a = a + 1; b = b + 1; } }";
+
+const COUNTED: &str = "set clock = external \"clk\"; unsigned 2 i; unsigned 4 a; unsigned 1 b;
+void main(void) { for (i = 0; i < 2; i++) a = a + 1; b = 1; }";
+
+const CHOSEN: &str = "set clock = external \"clk\"; unsigned 2 x = 2; unsigned 4 y;
+void main(void) { switch (x) { case 1: case 2: y = 5; break; default: y = 9; } }";
+
+const AT_LEAST_ONCE: &str = "set clock = external \"clk\"; unsigned 2 x;
+void main(void) { do { x = x + 1; } while (x != 3); }";
 
 #[test]
-fn does_edge_by_edge_what_the_source_says(rt: HostRuntime) -> Result<(), Fail> {
-    for row in ROWS.split('#') {
-        let (written, want) = row.split_once("~>").ok_or("no row")?;
-        let found = shown_of_row(rt.alloc(), written)?;
-        assert_eq!(rt; found.as_str(), want, "{written}");
-    }
+fn registers_hold_edge_by_edge_what_the_source_says(rt: HostRuntime) -> Result<(), Fail> {
+    let alloc = rt.alloc();
+    assert!(rt; source_runs(alloc, EXCHANGE, 0, 4, &[], &[1, 2, 2])?);
+    assert!(rt; source_runs(alloc, EXCHANGE, 1, 4, &[], &[2, 1, 1])?);
+    assert!(rt; source_runs(alloc, UNEQUAL_BRANCHES, 0, 1, &[], &[0, 1, 1, 1])?);
+    assert!(rt; source_runs(alloc, UNEQUAL_BRANCHES, 1, 1, &[], &[0, 0, 0, 1, 1])?);
+    assert!(rt;
+        source_runs(
+            alloc,
+            WITHOUT_A_CLOCK,
+            1,
+            4,
+            &[0, 1, 0, 0, 0],
+            &[0, 0, 1, 1, 1]
+        )?
+    );
+    assert!(rt;
+        source_runs(
+            alloc,
+            WITHOUT_A_CLOCK,
+            2,
+            4,
+            &[0, 1, 0, 0, 0],
+            &[0, 1, 1, 2, 3]
+        )?
+    );
+    assert!(rt; source_runs(alloc, COUNTED, 1, 4, &[], &[0, 0, 1, 1, 2, 2, 2])?);
+    assert!(rt; source_runs(alloc, COUNTED, 2, 1, &[], &[0, 0, 0, 0, 0, 0, 1])?);
+    assert!(rt; source_runs(alloc, CHOSEN, 1, 4, &[], &[0, 5, 5])?);
+    assert!(rt; source_runs(alloc, AT_LEAST_ONCE, 0, 2, &[], &[0, 1, 2, 3, 3])?);
     Ok(())
 }
