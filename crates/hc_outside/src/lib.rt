@@ -4,13 +4,16 @@
 #![tactic(auto)]
 
 mod errors;
+mod file_id;
 mod file_store;
+mod kept_files;
 mod mem_file;
 mod mem_files;
 mod mem_sink;
 mod mem_store;
 mod open_file;
 mod plan;
+mod report;
 mod sink;
 mod std_sink;
 mod store;

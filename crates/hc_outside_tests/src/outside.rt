@@ -9,9 +9,12 @@ use hc_outside::{
 };
 use std::alloc::Global;
 use std::fs;
+use std::os::unix::fs::symlink;
 use std::test::Fail;
 
 const FOLDER: &str = "hc_outside_test";
+
+const KEPT: &str = "hc_outside_kept";
 
 /// Appends a piece to the open file, through the sink over it. It stands for each writer of a text.
 fn append_all<S: Store>(alloc: Global, piece: &[u8], store: &mut S) -> Result<(), WriteErr>
@@ -131,7 +134,8 @@ fn files_of_the_system_are_loaded_and_made(rt: HostRuntime) -> Result<(), Fail> 
         b"longer than nothing",
         &mut store,
     )?;
-    save(alloc, "hc_outside_test/a", b"", &mut store)?;
+    let mut other = FileStore::new(&rt);
+    save(alloc, "hc_outside_test/a", b"", &mut other)?;
     store.load(alloc, "hc_outside_test/a", 0, &mut into)?;
     assert_eq!(rt; into.len(), 0);
 
@@ -179,6 +183,42 @@ fn files_of_the_system_are_loaded_and_made(rt: HostRuntime) -> Result<(), Fail> 
     );
     assert_eq!(rt; into.as_slice(), text.as_slice());
     fs::remove_dir_all(&rt, FOLDER)?;
+    Ok(())
+}
+
+#[test]
+fn a_file_that_was_read_or_written_is_kept(rt: HostRuntime) -> Result<(), Fail> {
+    let alloc = rt.alloc();
+    let _ = fs::remove_dir_all(&rt, KEPT);
+    fs::create_dir(&rt, KEPT)?;
+    fs::write(&rt, "hc_outside_kept/a", "source")?;
+    fs::hard_link(&rt, "hc_outside_kept/a", "hc_outside_kept/hard")?;
+    symlink(&rt, "a", "hc_outside_kept/soft")?;
+    let mut store = FileStore::new(&rt);
+    let mut into = Vec::new(alloc);
+    store.load(alloc, "hc_outside_kept/a", 9, &mut into)?;
+    save(alloc, "hc_outside_kept/b", b"text", &mut store)?;
+    let names = [
+        "hc_outside_kept/a",
+        "./hc_outside_kept/../hc_outside_kept/a",
+        "hc_outside_kept/hard",
+        "hc_outside_kept/soft",
+        "hc_outside_kept/b",
+    ];
+    for name in names {
+        assert!(rt;
+            matches!(
+                save(alloc, name, b"other", &mut store),
+                Err(WriteErr::WriteFault)
+            ),
+            "{name}"
+        );
+    }
+    store.load(alloc, "hc_outside_kept/soft", 9, &mut into)?;
+    assert_eq!(rt; into.as_slice(), b"source".as_slice());
+    store.load(alloc, "hc_outside_kept/b", 9, &mut into)?;
+    assert_eq!(rt; into.as_slice(), b"text".as_slice());
+    fs::remove_dir_all(&rt, KEPT)?;
     Ok(())
 }
 

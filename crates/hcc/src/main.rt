@@ -1,4 +1,5 @@
-//! The program: it does the job of its words and ends with the number of the job's status.
+//! The program: it does the job of its words and ends with the number of the job's status. What went wrong outside of it
+//! is said on standard error: by the store and the sink for files and the standard output, and here for memory.
 #![tactic(auto)]
 
 use hc_outside::{FileStore, StdSink};
@@ -9,11 +10,15 @@ use std::rt::{Env, Files};
 use std::{env, io};
 
 fn main(rt: HostRuntime) -> ExitCode {
-    ExitCode::from(run(&rt).number())
+    let status = run(&rt);
+    if matches!(status, Status::NoMemory) {
+        let _ = eprintln!(rt; "hcc: there wasn't enough memory");
+    }
+    ExitCode::from(status.number())
 }
 
 /// Does the job of the words. Where they can't be read as texts, there is none.
-fn run<R: Files + Env + Print + Alloc<A = Global>>(rt: &R) -> Status {
+fn run<R: Files + Env + Print + Eprint + Alloc<A = Global>>(rt: &R) -> Status {
     let mut store = FileStore::new(rt);
     let mut out = StdSink::new(rt);
     match words(rt) {
