@@ -1,7 +1,9 @@
-//! Tests of whole jobs, and of sources as netlists that run. They stand apart, so that no crate is proved once more for its
-//! tests.
+//! Tests of what the program itself can't show: jobs whose store fails, sources as netlists that run on `Gates`, and calls that
+//! no job makes. They stand apart, so that no crate is proved once more for its tests.
 #![tactic(auto)]
 
+#[cfg(test)]
+mod expressions;
 #[cfg(test)]
 mod gates;
 #[cfg(test)]

@@ -1,5 +1,0 @@
-//! Tests of the width rules by what their crate offers. They stand apart, so that it isn't proved once more for its tests.
-#![tactic(auto)]
-
-#[cfg(test)]
-mod width;
