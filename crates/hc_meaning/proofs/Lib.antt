@@ -20,7 +20,7 @@ mod Order
 mod There
 mod SameControl
 mod Identify
-mod Law
+pub mod Law
 mod Numbers
 mod Once
 mod EdgeSame
@@ -28,8 +28,9 @@ mod Wired
 mod AccessOnce
 mod OffersApart
 mod Writes
-mod Nets
+pub mod Nets
 mod Satisfied
-mod TextOrder
-mod Possible
-mod OneRun
+pub mod TextOrder
+pub mod Possible
+pub mod OneRun
+pub mod Least

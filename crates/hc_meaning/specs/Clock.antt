@@ -29,6 +29,7 @@ abbrev pub presented : ℕ → List ℕ → ℕ
 presented unset [] = unset
 presented unset (bits ∷ rest) = or_all (bits ∷ rest)
 
+-- the number of a signal, object k; what is no signal has 0
 abbrev pub signal_bits : World → List Leaf → ℕ → Kind → ℕ
 signal_bits w front k (kind.Signal width s unset) = presented unset.bits (flat_map (assigned w k) front)
 signal_bits w front k _ = 0
@@ -75,6 +76,7 @@ taken w (chooses_from n cases) = case_in (first_ready w cases)
     case_in None = None
     case_in (Some found) = Some found.0
 
+-- whether it is a receive case on channel k, or a send case
 abbrev pub takes_receive : ℕ → Option (ℕ × Offer) → Bool
 takes_receive k (Some (n, Receives chan t)) = chan == k
 takes_receive k _ = false
@@ -154,6 +156,7 @@ writes w front (chooses_from n cases) = received (taken w (chooses_from n cases)
     received (Some (n, Receives chan t)) = written_at w t (sent w front chan)
     received _ = []
 
+-- what the whole front writes
 abbrev pub all_writes : World → List Leaf → List Write
 all_writes w front = flat_map (writes w front) front
 
@@ -199,11 +202,12 @@ offered_accesses no_case = []
 offered_accesses (case_of n (Sends chan e) body rest) = accesses e ++ offered_accesses rest
 offered_accesses (case_of n (Receives chan t) body rest) = target_accesses t ++ offered_accesses rest
 
--- the RAMs and ROMs that an action of the front accesses, and those that a condition does, each as often as it does
+-- the RAMs and ROMs that an action of the front accesses, each as often as it does
 abbrev pub leaf_uses : Leaf → List ℕ
 leaf_uses (does n a) = accessed (action_accesses a)
 leaf_uses (chooses_from n cases) = accessed (offered_accesses cases)
 
+-- the RAMs and ROMs that a condition accesses
 abbrev pub condition_uses : Condition → List ℕ
 condition_uses c = accessed (accesses c.value)
 
@@ -231,6 +235,7 @@ case_receives no_case = []
 case_receives (case_of n (Sends chan e) body rest) = case_receives rest
 case_receives (case_of n (Receives chan t) body rest) = chan ∷ case_receives rest
 
+-- the channels on which an action of the front offers a send, and a receive
 abbrev pub send_offers : Leaf → List ℕ
 send_offers (does n (Send chan e)) = chan ∷ []
 send_offers (does n a) = []
@@ -256,5 +261,6 @@ abbrev pub output_of : World → Kind → List ℕ
 output_of w (kind.Output width s pins value) = (number_of w (expression value)).bits ∷ []
 output_of w _ = []
 
+-- the numbers of all outputs
 abbrev pub outputs : World → List ℕ
 outputs w = flat_map (output_of w) w.kinds

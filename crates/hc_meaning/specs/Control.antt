@@ -14,6 +14,7 @@ abbrev pub is_ready : World → Offer → Bool
 is_ready w (Sends chan e) = slice_index_or w.instant.receives chan false
 is_ready w (Receives chan t) = slice_index_or w.instant.sends chan false
 
+-- whether a case is ready
 abbrev pub some_ready : World → Cases → Bool
 some_ready w no_case = false
 some_ready w (case_of n offer body rest) = is_ready w offer || some_ready w rest
@@ -24,12 +25,14 @@ some_ready w (case_of n offer body rest) = is_ready w offer || some_ready w rest
 abbrev pub chooses : Number → List Number → Bool
 chooses n values = list_any (λ v. v.bits == n.bits) values
 
+-- whether an arm is chosen
 abbrev pub is_chosen : Number → Arms → Bool
 is_chosen n no_arm = false
 is_chosen n (arm values other body rest) = chooses n values || is_chosen n rest
 
 -- ---- control
 
+-- whether nothing is left
 abbrev pub is_skip : Residual → Bool
 is_skip Skip = true
 is_skip _ = false
@@ -42,10 +45,12 @@ followed_by first now later = if is_skip first then now else Then first later
 abbrev pub looped : Bool → Residual → Residual → Residual
 looped goes_on body loop = if goes_on && not (is_skip body) then Then body loop else Skip
 
+-- whether all branches are done
 abbrev pub all_ended : Branches → Bool
 all_ended ended = true
 all_ended (first ∥ rest) = is_skip first && all_ended rest
 
+-- branches that are resolved: passed where all are done
 abbrev pub together : Branches → Residual
 together branches = if all_ended branches then Skip else Par branches
 

@@ -50,10 +50,12 @@ mutual
 abbrev pub Numbered : Type 0 → Type 0
 Numbered A = ℕ → A × ℕ
 
+-- the part that follows, numbered from there on
 infixl 10 ◌>>=◌
 abbrev pub ◌>>=◌ : {A B : Type 0} → Numbered A → (A → Numbered B) → Numbered B
 p >>= next = λ n. next (p n).0 (p n).1
 
+-- a part without numbers
 abbrev pub pure : {A : Type 0} → A → Numbered A
 pure a = λ n. (a, n)
 

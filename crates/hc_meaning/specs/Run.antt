@@ -16,6 +16,7 @@ pub record State : Type 0 where
   pub rest : Residual
   pub store : Store
 
+-- what expressions are read in, in the clock behind a state
 abbrev pub world_of : List Kind → List ℕ → State → Instant → World
 world_of kinds inputs s r = record { kinds = kinds; store = s.store; inputs = inputs; instant = r; word = word_in s.store }
 

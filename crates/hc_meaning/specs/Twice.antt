@@ -6,6 +6,7 @@ use Rattle.hc_meaning.specs.Value.{World}
 use Rattle.hc_meaning.specs.Control.{Condition, Leaf}
 use Rattle.hc_meaning.specs.Clock.{all_writes, cells_written, signals_of, leaf_uses, condition_uses, users, send_offers, receive_offers}
 
+-- whether two cells are one
 abbrev pub is_cell : ℕ × ℕ → ℕ × ℕ → Bool
 is_cell a b = (a.0 == b.0) && (a.1 == b.1)
 

@@ -28,6 +28,7 @@ abbrev pub leaf_words : ℕ → World → Leaf → List (ℕ × ℕ)
 leaf_words k x (does n a) = map (access_at n x) (indexes k (action_accesses a))
 leaf_words k x (chooses_from n cases) = []
 
+-- each access of k by a condition, as its number and the index
 abbrev pub condition_words : ℕ → World → Condition → List (ℕ × ℕ)
 condition_words k x c = map (access_at c.number x) (indexes k (accesses c.value))
 

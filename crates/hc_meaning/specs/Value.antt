@@ -21,6 +21,7 @@ use Rattle.hc_core.specs.declared.object.Kind.TheVariants as kind
 abbrev pub Store : Type 0
 Store = List (List ℕ)
 
+-- the numbers of one object
 abbrev pub words : Store → ℕ → List ℕ
 words store k = slice_index_or store k []
 
@@ -34,6 +35,7 @@ padded zero first = []
 padded (suc n) [] = 0 ∷ padded n []
 padded (suc n) (bits ∷ first) = bits ∷ padded n first
 
+-- numbers without their types
 abbrev pub bits_of : List Number → List ℕ
 bits_of numbers = map (λ n. n.bits) numbers
 
@@ -76,6 +78,7 @@ pub record World : Type 0 where
 abbrev pub typed : Option Kind → ℕ → Number
 typed kind bits = record { width = kind_width kind; signed = kind_sign kind; bits = bits }
 
+-- whether an object is an input
 abbrev pub is_input : Kind → Bool
 is_input (kind.Input w s pins) = true
 is_input _ = false
@@ -90,6 +93,7 @@ inputs_before (kind ∷ kinds) (suc k) = (if is_input kind then 1 else 0) + inpu
 abbrev pub holds : Number → Bool
 holds n = not (n.bits == 0)
 
+-- the operators of one operand, and of two
 abbrev pub unary : UnOp → Number → Number
 unary Neg a = negation a
 unary Not a = complement a

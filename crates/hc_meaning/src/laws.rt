@@ -1,4 +1,5 @@
-ghost use Rattle.std.specs.Prelude.{◌≡◌, ◌<◌, ◌≤◌, ℕ, List, None};
+ghost use Rattle.std.specs.Prelude.{◌≡◌, ◌<◌, ◌≤◌, ℕ, List, Some, None, All};
+ghost use Rattle.std.specs.List.{Contains};
 ghost use Rattle.hc_tree.specs.declared.refusal.Node.{Node};
 ghost use Rattle.hc_core.specs.Typed.{kinds_of};
 ghost use Rattle.hc_core.specs.Sound.{IsSound};
@@ -10,15 +11,18 @@ ghost use Rattle.hc_meaning.specs.Numbers.{numbers, numbered};
 ghost use Rattle.hc_meaning.specs.Value.{World, Instant};
 ghost use Rattle.hc_meaning.specs.Control.{Leaf, Condition};
 ghost use Rattle.hc_meaning.specs.Clock.{IsClean};
-ghost use Rattle.hc_meaning.specs.Twice.{used_twice};
+ghost use Rattle.hc_meaning.specs.Twice.{used_twice, all_used_twice};
 ghost use Rattle.hc_meaning.specs.Run.{Run, Settled, world_in, conflict};
 ghost use Rattle.hc_meaning.specs.OneInstant.{HasOneInstant, LoopsWait};
 ghost use Rattle.hc_meaning.specs.Nets.{AccessesApart, OffersApart, Wired, Identified};
 
-/// A clock is clean, which is that no object is used twice in it, exactly where there is no least such object.
+/// A clock is clean, which is that no object is used twice in it, exactly where there is no least such object; and where there
+/// is one, it is used twice and none that is has a lesser number.
 pub fn clean_clock()
     ensures clean { (w : World) (front : List Leaf) (conditions : List Condition) → used_twice w front conditions ≡ None → IsClean w front conditions }
     ensures none { (w : World) (front : List Leaf) (conditions : List Condition) → IsClean w front conditions → used_twice w front conditions ≡ None }
+    ensures least { (w : World) (front : List Leaf) (conditions : List Condition) (k : ℕ) → used_twice w front conditions ≡ Some k
+        → Contains (all_used_twice w front conditions) k × All (λ j. k ≤ j) (all_used_twice w front conditions) }
 {}
 
 /// The actions, cases and conditions of a statement have the numbers from 0 on, in text order.
