@@ -34,3 +34,4 @@ pub mod TextOrder
 pub mod Possible
 pub mod OneRun
 pub mod Least
+pub mod Longer

@@ -1,4 +1,4 @@
-ghost use Rattle.std.specs.Prelude.{◌≡◌, ◌<◌, ◌≤◌, ℕ, List, Some, None, All};
+ghost use Rattle.std.specs.Prelude.{◌≡◌, ◌<◌, ◌≤◌, ℕ, suc, List, Some, None, All};
 ghost use Rattle.std.specs.List.{Contains};
 ghost use Rattle.hc_tree.specs.declared.refusal.Node.{Node};
 ghost use Rattle.hc_core.specs.Typed.{kinds_of};
@@ -12,7 +12,7 @@ ghost use Rattle.hc_meaning.specs.Value.{World, Instant};
 ghost use Rattle.hc_meaning.specs.Control.{Leaf, Condition};
 ghost use Rattle.hc_meaning.specs.Clock.{IsClean};
 ghost use Rattle.hc_meaning.specs.Twice.{used_twice, all_used_twice};
-ghost use Rattle.hc_meaning.specs.Run.{Run, Settled, world_in, conflict};
+ghost use Rattle.hc_meaning.specs.Run.{Run, AreInputs, Settled, world_in, conflict, state_after};
 ghost use Rattle.hc_meaning.specs.OneInstant.{HasOneInstant, LoopsWait};
 ghost use Rattle.hc_meaning.specs.Nets.{AccessesApart, OffersApart, Wired, Identified};
 
@@ -36,12 +36,16 @@ pub fn one_instant()
     ensures { (core : Core) (ranks : List (Node × ℕ)) → IsSound core → LoopsWait core → IsOrder core ranks → HasOneInstant core }
 {}
 
-/// Such a core has one run of n clean clocks on a trace, if it has one: its states and its outputs.
+/// Such a core has one run of n clean clocks on a trace, if it has one: its states and its outputs. A run goes on by each
+/// settled clock that is clean.
 pub fn one_run()
     ensures states { (core : Core) (ranks : List (Node × ℕ)) → IsSound core → LoopsWait core → IsOrder core ranks
         → (trace : ℕ → List ℕ) (n : ℕ) (a b : Run core trace n) (t : ℕ) → t ≤ n → a.state t ≡ b.state t }
     ensures outputs { (core : Core) (ranks : List (Node × ℕ)) → IsSound core → LoopsWait core → IsOrder core ranks
         → (trace : ℕ → List ℕ) (n : ℕ) (a b : Run core trace n) (t : ℕ) → t < n → a.shown t ≡ b.shown t }
+    ensures longer { (core : Core) (trace : ℕ → List ℕ) (n : ℕ) (run : Run core trace n) (settled : Settled (kinds_of core.objects) (trace n) (run.state n))
+        → AreInputs (kinds_of core.objects) (trace n) → conflict (world_in settled) (run.state n).rest ≡ None
+        → (more : Run core trace (suc n)) × ((t : ℕ) → t ≤ n → more.state t ≡ run.state t) × (more.state (suc n) ≡ state_after (world_in settled) (run.state n).rest) }
 {}
 
 /// In a clean clock of such a core, which accesses no RAM or ROM twice in one action or condition and none in a case or an
