@@ -1,5 +1,5 @@
 -- Worked rows of runs: what objects hold at each edge of clean clocks, and what outputs show.
-use Rattle.std.proofs.Common.{ℕ, zero, suc, List, [], ◌∷◌, true, false, Some, None, refl}
+use Rattle.std.proofs.Common.{◌≡◌, ℕ, zero, suc, List, [], ◌∷◌, true, false, Some, None, refl}
 use Rattle.hc_core.specs.Read.{expression, target, statement, statements_in, cases_in, arms_in}
 use Rattle.hc_core.specs.declared.expr.BinOp.TheVariants.{Add, Lt, Ne, Eq}
 use Rattle.hc_core.specs.declared.expr.Expr.TheVariants as e
@@ -9,8 +9,12 @@ use Rattle.hc_core.specs.declared.stmt.Stmt.TheVariants as s
 use Rattle.hc_core.specs.declared.stmt.Case.TheBlock as sb
 use Rattle.hc_core.specs.declared.stmt.Target.TheVariants as t
 use Rattle.hc_core.specs.declared.object.Kind.TheVariants as kind
-use Rattle.hc_meaning.specs.Residual.{residual}
-use Rattle.hc_meaning.proofs.Programs.{here, core, no_inputs, reg, array, ram, rom, sig, chan, const, sets, takes, counts, delay, par, seq, sends, receives, waits_for, receive_case, send_case, arm_of, tests_word}
+use Rattle.hc_meaning.specs.Residual.{residual, Skip, Sends, Receives, no_case, case_of}
+use Rattle.hc_core.specs.Program.{Constant, ToRegister}
+use Rattle.hc_meaning.specs.Control.{chooses_from}
+use Rattle.hc_meaning.specs.Clock.{taken}
+use Rattle.hc_meaning.specs.Run.{world_of}
+use Rattle.hc_meaning.proofs.Programs.{here, number, core, no_inputs, reg, array, ram, rom, sig, chan, const, sets, takes, counts, delay, par, seq, sends, receives, waits_for, receive_case, send_case, arm_of, tests_word}
 use Rattle.hc_meaning.proofs.Ran.{Holds, holds, Shows, shows}
 
 -- the input 1 in each clock of an even number, and in clock 1 alone
@@ -253,3 +257,9 @@ row_outputs : Shows (core (reg 4 0 ∷ kind.Input 1 false [] ∷ kind.Output 4 f
     ((0 ∷ 1 ∷ []) ∷ (1 ∷ 0 ∷ []) ∷ (2 ∷ 1 ∷ []) ∷ [])
 unfolding residual statement statements_in cases_in arms_in target expression eb.hidden-the_row-Expr-0 sb.hidden-the_row-Stmt-1 sb.hidden-the_row-Stmt-2 sb.hidden-the_row-Arm-3 sb.hidden-the_row-Case-0 denote.Hole.Carrier.hidden
 row_outputs = shows _ _ _ _ refl refl
+
+-- the case that is taken is known by its number
+row_taken : taken (world_of [] [] (record { rest = Skip; store = [] }) (record { signals = []; sends = false ∷ true ∷ []; receives = true ∷ false ∷ [] }))
+    (chooses_from 3 (case_of 4 (Receives 0 (ToRegister 2)) Skip (case_of 5 (Sends 1 (Constant (number 4 0))) Skip (case_of 6 (Receives 1 (ToRegister 2)) Skip (case_of 7 (Receives 1 (ToRegister 3)) Skip no_case)))))
+    ≡ Some (6, Receives 1 (ToRegister 2))
+row_taken = refl
