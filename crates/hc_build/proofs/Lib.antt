@@ -10,6 +10,7 @@ pub mod MeaningStores
 pub mod MeaningWrites
 pub mod Placing
 pub mod Program
+pub mod Rows
 pub mod SourcesMade
 pub mod Stages
 pub mod StructureBits
