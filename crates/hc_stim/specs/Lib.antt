@@ -1,1 +1,5 @@
 pub mod Bench
+pub mod Text
+pub mod Reading
+pub mod Lines
+pub mod StimErr

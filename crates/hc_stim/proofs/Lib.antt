@@ -1,0 +1,4 @@
+mod Decimals
+mod Fields
+mod LineLaws
+mod Kept
