@@ -1,4 +1,3 @@
-pub mod Operands
 pub mod Sealed
 pub mod Counter
 pub mod Sum

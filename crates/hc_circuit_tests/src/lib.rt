@@ -1,11 +1,7 @@
-//! Tests of circuits, of netlists and of their benches by what their crates offer. They stand apart, so that no crate is
-//! proved once more for its tests.
+//! Tests of netlists and of their benches by what their crates offer. They stand apart, so that no crate is proved once more
+//! for its tests. Circuits of operators are run by the corpus, as netlists that the program builds.
 #![tactic(auto)]
 
-#[cfg(test)]
-mod bits;
-#[cfg(test)]
-mod muldiv;
 #[cfg(test)]
 mod net;
 #[cfg(test)]

@@ -1,8 +1,0 @@
-use Rattle.std.proofs.Common.{◌≡◌, ◌-◌, ◌^◌, ap, ◌∙◌, arith}
-use Rattle.std.proofs.lemmas.Nat.Bits.{ones_shr}
-use Rattle.hc_circuit_tests.proofs.bits.ones.Goals as goal
-
-pub returns : goal.returns
-returns c =
-    let e : 128 - (128 - c.args.width) ≡ c.args.width = omega arith in
-    ones_shr 128 (128 - c.args.width) (omega arith) ∙ ap (λ n. 2 ^ n - 1) e
