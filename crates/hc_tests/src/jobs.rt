@@ -12,7 +12,7 @@ const FIRST: &[u8] =
 
 const BUILD: &str = "build first.hc --edif first.edif";
 
-const BUILT: &[u8] = b"built: gates 38, flip-flops 7, rams 0\n";
+const BUILT: &[u8] = b"built: gates 41, flip-flops 8, rams 0\n";
 
 /// The words of a line.
 fn words(alloc: Global, line: &str) -> Result<Vec<String>, Fail> {
