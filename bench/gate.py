@@ -8,6 +8,7 @@ import collections
 import os
 import re
 import shutil
+import signal
 import subprocess
 import sys
 import tempfile
@@ -59,9 +60,14 @@ def main(names):
         subprocess.run(["git", "clone", "-q", TOP, folder], check=True)
         with open(os.path.join(folder, ".git", "gate.log"), "w+", encoding="utf-8", errors="replace") as log:
             run = subprocess.Popen(["rt", "ci", "--anew", *names], cwd=folder, env={**os.environ, name: "1"}, stdout=log, stderr=log)
-            while run.poll() is None:
-                look(f"{name}=1".encode(), seen)
-                time.sleep(0.5)
+            signal.signal(signal.SIGTERM, lambda *_: sys.exit(143))
+            try:
+                while run.poll() is None:
+                    look(f"{name}=1".encode(), seen)
+                    time.sleep(0.5)
+            finally:
+                run.terminate()
+                run.wait()
             log.seek(0)
             said = log.read()
     spent = collections.defaultdict(lambda: dict.fromkeys(KINDS, 0.0))
