@@ -23,8 +23,8 @@ def loops(n):
 
 def nested(n):
     """n assignments in groups of a hundred, each group within 90 nested loops and branches."""
-    opened = "while (c) if (c) { " * 45
-    closed = "}" * 45
+    opened = "while (c) { delay; if (c) { " * 45
+    closed = "} }" * 45
     return source([opened + "y = 1; " * 100 + closed] * max(1, n // 100))
 
 
@@ -52,12 +52,12 @@ def labels(n):
 
 # each shape with the greatest size, near the limit
 SHAPES = {
-    "loops": (loops, 9_500),
-    "nested": (nested, 18_000),
+    "loops": (loops, 8_200),
+    "nested": (nested, 12_000),
     "threads": (threads, 6_900),
-    "replicated": (replicated, 30_000),
-    "switches": (switches, 3_900),
-    "labels": (labels, 17_000),
+    "replicated": (replicated, 19_200),
+    "switches": (switches, 3_000),
+    "labels": (labels, 13_800),
 }
 
 
