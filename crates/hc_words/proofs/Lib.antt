@@ -1,0 +1,3 @@
+mod OneJob
+mod Saying
+mod Fitting
