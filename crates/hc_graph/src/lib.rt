@@ -5,6 +5,8 @@ mod cycle;
 mod graph;
 mod search;
 mod sorting;
+#[cfg(test)]
+mod tests;
 
 pub use graph::{Fork, Sorted};
 pub use sorting::sort;
