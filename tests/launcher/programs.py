@@ -7,7 +7,7 @@ import tempfile
 
 TOP = os.path.dirname(os.path.dirname(os.path.dirname(os.path.abspath(__file__))))
 FIRST = os.path.join(TOP, "examples", "first.hc")
-BUILT = b"built: gates 38, flip-flops 7, rams 0\n"
+BUILT = b"built: gates 41, flip-flops 8, rams 0\n"
 SECONDS = 120
 
 
