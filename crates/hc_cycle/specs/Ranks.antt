@@ -1,5 +1,5 @@
 -- Nodes with their numbers, and the number of a node (this project's own).
-use Rattle.std.specs.Prelude.{ℕ, Bool, false, ◌==◌, if◌then◌else◌, List, [], ◌∷◌, Option, Some, None}
+use Rattle.std.specs.Prelude.{ℕ, ◌+◌, ◌*◌, ◌<◌, Bool, false, ◌==◌, AllPairs, if◌then◌else◌, List, [], ◌∷◌, Option, Some, None}
 use Rattle.hc_tree.specs.declared.refusal.Node.{Node}
 use Rattle.hc_tree.specs.declared.refusal.Node.TheVariants.{Value, Sends, Receives}
 
@@ -19,3 +19,13 @@ is_same (Receives j) (Receives k) = j == k
 abbrev pub rank_of : Node → List (Node × ℕ) → Option ℕ
 rank_of node [] = None
 rank_of node (pair ∷ rest) = if is_same pair.0 node then Some pair.1 else rank_of node rest
+
+-- the number of a node in the order of nodes, in which the sends of a channel come before its receives
+abbrev pub number_of : Node → ℕ
+number_of (Value k) = 3 * k
+number_of (Sends k) = 3 * k + 1
+number_of (Receives k) = 3 * k + 2
+
+-- the pairs stand in the order of their nodes, each node once
+abbrev pub AreInOrder : List (Node × ℕ) → Type 0
+AreInOrder pairs = AllPairs (λ a b. number_of a.0 < number_of b.0) pairs

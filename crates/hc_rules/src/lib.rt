@@ -12,8 +12,6 @@ mod numbers;
 mod objects;
 mod offers;
 mod rules;
-#[cfg(test)]
-mod tests;
 mod walk;
 mod weight;
 

@@ -6,4 +6,3 @@ pub mod Controlled
 pub mod LatchNodes
 pub mod Waited
 pub mod SideBySide
-pub mod Sample

@@ -2,4 +2,3 @@ pub mod Control
 pub mod Circuits
 pub mod Latches
 pub mod Waits
-pub mod Sample

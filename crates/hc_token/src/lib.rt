@@ -11,8 +11,6 @@ mod looping;
 mod parallel;
 mod sequence;
 mod side;
-#[cfg(test)]
-mod tests;
 mod waiting;
 
 pub use action::act;
