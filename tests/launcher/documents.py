@@ -9,7 +9,7 @@ from programs import TOP, Failure
 
 RULES = [f"S{i}" for i in range(1, 25)] + [f"L{i}" for i in range(1, 10)]
 # Rules that are judged once their forms are built; NotBuilt stands in their place until then.
-LATER = {"S16", "S17", "S18", "S19", "S20", "S21", "S22"}
+LATER = {"S17"}
 NOT_BUILT = re.compile(rb"refused NotBuilt at \d+:\d+\n")
 ACCEPTED = re.compile(rb"objects \d+, weight \d+, flip-flops \d+\n")
 SMALL = """(edif hc (edifVersion 2 0 0) (edifLevel 0) (keywordMap (keywordLevel 0))
