@@ -4,11 +4,9 @@ doubling weight, up to the limit of 2,000,000.
 
 Usage: bench/build.py [HCC [SHAPE..]]      HCC is the program, crates/hcc/out/hcc if none is given; all shapes if none is named
 """
-import os, re, sys, tempfile
+import os, tempfile
 
 import measure
-
-LIMIT = 2_000_000
 
 
 def source(declarations, statements):
@@ -74,29 +72,17 @@ SHAPES = {
 }
 
 
-def main():
-    program = measure.program()
-    names = sys.argv[2:] or list(SHAPES)
-    print("shape          n   weight | check s    MiB | build s    MiB    gates     bytes  line")
+def print_blanks():
+    """A line for each size of a source of blanks and one byte that begins no token."""
+    hcc = measure.program()
     with tempfile.TemporaryDirectory() as folder:
         name, out = os.path.join(folder, "a.hc"), os.path.join(folder, "a.edif")
-        for shape in names:
-            make, most = SHAPES[shape]
-            for size in sorted({max(1, most >> k) for k in range(5)}):
-                with open(name, "w") as file:
-                    file.write(make(size))
-                check_seconds, check_peak, _, line = measure.run([program, "check", name])
-                weight = re.search(r"weight (\d+)", line)
-                seconds, peak, status, printed = measure.run([program, "build", name, "--edif", out])
-                gates = re.search(r"gates (\d+)", printed)
-                size_of = os.path.getsize(out) if status == 0 else 0
-                print(f"{shape:9} {size:6} {weight.group(1) if weight else line:>8} | {check_seconds:7.3f} {check_peak / 1024:6.1f}"
-                      f" | {seconds:7.3f} {peak / 1024:6.1f} {gates.group(1) if gates else '':>8} {size_of:9}  {status} {printed}")
         for size in [1 << 16, 1 << 18, 1 << 20, 1 << 22]:
             with open(name, "w") as file:
                 file.write(" " * (size - 1) + "$")
-            seconds, peak, status, printed = measure.run([program, "build", name, "--edif", out])
-            print(f"blanks {size:9}          |                | {seconds:7.3f} {peak / 1024:6.1f} {'':8} {'':9}  {status} {printed}")
+            seconds, peak, status, printed = measure.run([hcc, "build", name, "--edif", out])
+            print(f"blanks {size:11}          |                | {seconds:7.3f} {peak / 1024:6.1f} {'':8} {'':9}  {status} {printed}")
 
 
-main()
+measure.print_builds(SHAPES)
+print_blanks()

@@ -1,11 +1,9 @@
 #!/usr/bin/env python3
-"""Prints seconds and peak memory of `hcc check` and `hcc build`, with the gates of the netlist, over sources of nested control of
+"""Prints seconds and peak memory of `hcc check` and `hcc build`, with the gates and the bytes of the netlist, over sources of nested control of
 doubling size, up to the limit of the weight of 2,000,000.
 
 Usage: bench/control.py [HCC [SHAPE..]]      HCC is the program, crates/hcc/out/hcc if none is given; all shapes if none is named
 """
-import os, re, sys, tempfile
-
 import measure
 
 DECLARED = "unsigned 1 c; unsigned 4 x; unsigned 4 y;"
@@ -61,23 +59,4 @@ SHAPES = {
 }
 
 
-def main():
-    program = measure.program()
-    names = sys.argv[2:] or list(SHAPES)
-    print("shape            n   weight | check s    MiB | build s    MiB    gates  line")
-    with tempfile.TemporaryDirectory() as folder:
-        name, out = os.path.join(folder, "a.hc"), os.path.join(folder, "a.edif")
-        for shape in names:
-            make, most = SHAPES[shape]
-            for size in sorted({max(1, most >> k) for k in range(5)}):
-                with open(name, "w") as file:
-                    file.write(make(size))
-                check_seconds, check_peak, _, line = measure.run([program, "check", name])
-                weight = re.search(r"weight (\d+)", line)
-                seconds, peak, status, printed = measure.run([program, "build", name, "--edif", out])
-                gates = re.search(r"gates (\d+)", printed)
-                print(f"{shape:10} {size:7} {weight.group(1) if weight else line:>8} | {check_seconds:7.3f} {check_peak / 1024:6.1f}"
-                      f" | {seconds:7.3f} {peak / 1024:6.1f} {gates.group(1) if gates else '':>8}  {status} {printed}")
-
-
-main()
+measure.print_builds(SHAPES)
