@@ -2,14 +2,14 @@
 use Rattle.std.proofs.Common.{◌≡◌, ◌<◌, ℕ, ◌+◌, ◌-◌, ◌^◌, ◌⊎◌, List, [], ◌∷◌, ◌++◌, length, get_or, set, ap, sym, ◌∙◌, subst}
 use Rattle.std.specs.Prelude.{All, min}
 use Rattle.std.proofs.lemmas.List.{get_or_default}
-use Rattle.hc_net.specs.Circuit.{Circuit, Extends, node_at, input_count, input_nodes, input_bits_of, NodeReadsWithin, IsBuilt, reading, IsUnfed, IsUndriven}
+use Rattle.hc_net.specs.Circuit.{Circuit, Extends, node_at, input_count, input_nodes, NodeReadsWithin, IsBuilt, IsAlone, reading, IsUnfed, IsUndriven}
 use Rattle.hc_net.specs.declared.net.Port.{Port}
 use Rattle.hc_net.specs.declared.net.Port.TheVariants as port
 use Rattle.hc_net.specs.declared.node.Node.{Node}
 use Rattle.hc_net.proofs.Nodes.{IsBuilt-node, IsBuilt-connected, IsBuilt-input, IsBuilt-output, extends_append, extends_set, input_count-input, input_count-output}
 
 -- b is the builder by its fields, and c is what its callers see
-pub built_added : (b c : Circuit) (node : Node) (nodes : List Node) → b ≡ c → IsBuilt b → input_bits_of (node ∷ []) ≡ [] → NodeReadsWithin (length c.nodes) (length c.nodes) node → length c.nodes + 1 < 2 ^ 32 → nodes ≡ b.nodes ++ node ∷ [] → IsBuilt (record { clock = b.clock; ports = b.ports; nodes = nodes })
+pub built_added : (b c : Circuit) (node : Node) (nodes : List Node) → b ≡ c → IsBuilt b → IsAlone node → NodeReadsWithin (length c.nodes) (length c.nodes) node → length c.nodes + 1 < 2 ^ 32 → nodes ≡ b.nodes ++ node ∷ [] → IsBuilt (record { clock = b.clock; ports = b.ports; nodes = nodes })
 built_added b c node nodes same built other last room is =
     let at : NodeReadsWithin (length b.nodes) (length b.nodes) node = subst (λ (d : Circuit). NodeReadsWithin (length d.nodes) (length d.nodes) node) (sym same) last in
     let free : length b.nodes + 1 < 2 ^ 32 = subst (λ (d : Circuit). length d.nodes + 1 < 2 ^ 32) (sym same) room in
@@ -19,16 +19,9 @@ pub extends_added : (b c : Circuit) (node : Node) (nodes : List Node) → b ≡ 
 extends_added b c node nodes same is =
     subst (λ (l : List Node). Extends c.nodes l) (sym (is ∙ ap (λ (d : Circuit). d.nodes ++ node ∷ []) same)) (extends_append c.nodes (node ∷ []))
 
--- the node that is connected is read from a slice of the nodes
-item_is : (b : Circuit) (k d : ℕ) (slice : List Node) (e item : Node) → k < length b.nodes → slice ≡ b.nodes → item ≡ reading d (get_or slice k e) → item ≡ reading d (node_at b.nodes k)
-item_is b k d slice e item here read is = is ∙ ap (λ (l : List Node). reading d (get_or l k e)) read ∙ ap (reading d) (get_or_default b.nodes k e _ here)
-
-module _ (b c : Circuit) (k d : ℕ) (slice : List Node) (e item : Node) (nodes : List Node) (same : b ≡ c) (within : k < length c.nodes) (read : slice ≡ b.nodes) (is : item ≡ reading d (get_or slice k e)) (to : nodes ≡ set b.nodes k item) where
+module _ (b c : Circuit) (k d : ℕ) (nodes : List Node) (same : b ≡ c) (within : k < length c.nodes) (connected_inside : nodes ≡ set b.nodes k (reading d (node_at b.nodes k))) where
   here : k < length b.nodes
   here = subst (λ (x : Circuit). k < length x.nodes) (sym same) within
-
-  connected_inside : nodes ≡ set b.nodes k (reading d (node_at b.nodes k))
-  connected_inside = to ∙ ap (λ (m : Node). set b.nodes k m) (item_is b k d slice e item here read is)
 
   connected_is : nodes ≡ set c.nodes k (reading d (node_at c.nodes k))
   connected_is = connected_inside ∙ ap (λ (x : Circuit). set x.nodes k (reading d (node_at x.nodes k))) same

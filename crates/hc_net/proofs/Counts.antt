@@ -8,15 +8,8 @@ use Rattle.hc_net.specs.Place.{base_of, flops_with, place_at, place_from, first_
 use Rattle.hc_net.specs.declared.net.FlopName.{FlopName}
 use Rattle.hc_net.specs.declared.net.Flop.{Flop as FlopData}
 use Rattle.hc_net.specs.declared.node.Node.{Node}
-use Rattle.hc_net.specs.declared.node.Node.TheVariants.{Input, Flop, Wire, Gate}
-use Rattle.hc_net.proofs.Nodes.{input_bits_of-append}
-
-pub flops_of-append : (xs ys : List Node) → flops_of (xs ++ ys) ≡ flops_of xs ++ flops_of ys
-flops_of-append [] ys = refl
-flops_of-append (Input p i ∷ xs) ys = flops_of-append xs ys
-flops_of-append (Flop name init d ∷ xs) ys = ap (λ l. (name, init) ∷ l) (flops_of-append xs ys)
-flops_of-append (Wire rank from ∷ xs) ys = flops_of-append xs ys
-flops_of-append (Gate g a b ∷ xs) ys = flops_of-append xs ys
+use Rattle.hc_net.specs.declared.node.Node.TheVariants.{Input, Flop, Wire, Gate, Ram}
+use Rattle.hc_net.proofs.Lists.{input_bits_of-append, flops_of-append}
 
 -- one node more
 pub inputs_more : (nodes : List Node) (i : ℕ) → i < length nodes → length (input_bits_of (take (i + 1) nodes)) ≡ length (input_bits_of (take i nodes)) + length (input_bits_of (node_at nodes i ∷ []))
@@ -49,6 +42,7 @@ counts_le (Input p i ∷ nodes) = omega (arith, counts_le nodes)
 counts_le (Flop name init d ∷ nodes) = omega (arith, counts_le nodes)
 counts_le (Wire rank from ∷ nodes) = omega (arith, counts_le nodes)
 counts_le (Gate g a b ∷ nodes) = omega (arith, counts_le nodes)
+counts_le (Ram rank first ram ∷ nodes) = omega (arith, counts_le nodes)
 
 -- the node of a number is the one in its place among its kind
 pub input_there : (nodes : List Node) (k p i : ℕ) → node_at nodes k ≡ Input p i → slice_get (input_bits_of nodes) (length (input_bits_of (take k nodes))) ≡ Some (p, i)
@@ -58,6 +52,7 @@ input_there (Input q j ∷ nodes) (suc k) p i e = input_there nodes k p i e
 input_there (Flop name init d ∷ nodes) (suc k) p i e = input_there nodes k p i e
 input_there (Wire rank from ∷ nodes) (suc k) p i e = input_there nodes k p i e
 input_there (Gate g a b ∷ nodes) (suc k) p i e = input_there nodes k p i e
+input_there (Ram rank first ram ∷ nodes) (suc k) p i e = input_there nodes k p i e
 
 pub flop_there : (f : ℕ → ℕ) (nodes : List Node) (k : ℕ) (name : FlopName) (init : Bool) (d : ℕ) → node_at nodes k ≡ Flop name init (Some d) → slice_get (flops_with f nodes) (length (flops_of (take k nodes))) ≡ Some (record { name = name; init = init; d = f d })
 flop_there f [] k name init d e = absurd cc
@@ -66,6 +61,7 @@ flop_there f (Input q j ∷ nodes) (suc k) name init d e = flop_there f nodes k 
 flop_there f (Flop m j x ∷ nodes) (suc k) name init d e = flop_there f nodes k name init d e
 flop_there f (Wire rank from ∷ nodes) (suc k) name init d e = flop_there f nodes k name init d e
 flop_there f (Gate g a b ∷ nodes) (suc k) name init d e = flop_there f nodes k name init d e
+flop_there f (Ram rank first ram ∷ nodes) (suc k) name init d e = flop_there f nodes k name init d e
 
 pub flops_with_are : (f : ℕ → ℕ) (nodes : List Node) → map (λ (x : FlopData). (x.name, x.init)) (flops_with f nodes) ≡ flops_of nodes
 flops_with_are f [] = refl
@@ -73,6 +69,7 @@ flops_with_are f (Input q j ∷ nodes) = flops_with_are f nodes
 flops_with_are f (Flop m j x ∷ nodes) = ap (λ l. (m, j) ∷ l) (flops_with_are f nodes)
 flops_with_are f (Wire rank from ∷ nodes) = flops_with_are f nodes
 flops_with_are f (Gate g a b ∷ nodes) = flops_with_are f nodes
+flops_with_are f (Ram rank first ram ∷ nodes) = flops_with_are f nodes
 
 -- the steps of the loops, with the node read at any default
 pub count_step : (nodes : List Node) (i count n : ℕ) (d : Node) → i < length nodes → n ≡ length (input_bits_of (get_or nodes i d ∷ [])) → count ≡ length (input_bits_of (take i nodes)) → count + n ≡ length (input_bits_of (take (i + 1) nodes))
@@ -105,6 +102,7 @@ flops_with-append f (Input p i ∷ xs) ys = flops_with-append f xs ys
 flops_with-append f (Flop name init d ∷ xs) ys = ap (λ l. record { name = name; init = init; d = f (unwrap_or d 0) } ∷ l) (flops_with-append f xs ys)
 flops_with-append f (Wire rank from ∷ xs) ys = flops_with-append f xs ys
 flops_with-append f (Gate g a b ∷ xs) ys = flops_with-append f xs ys
+flops_with-append f (Ram rank first ram ∷ xs) ys = flops_with-append f xs ys
 
 pub flops_step : (f : ℕ → ℕ) (nodes : List Node) (i : ℕ) (d : Node) (old new : List FlopData) → i < length nodes → old ≡ flops_with f (take i nodes) → new ≡ old ++ flops_with f (get_or nodes i d ∷ []) → new ≡ flops_with f (take (i + 1) nodes)
 flops_step f nodes i d old new within so_far to =

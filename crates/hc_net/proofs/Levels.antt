@@ -1,5 +1,5 @@
 -- The levels of nets, and that in their order each net stands after those that it reads.
-use Rattle.std.proofs.Common.{◌≡◌, ◌<◌, ◌≤◌, ℕ, zero, ◌+◌, ◌⊎◌, List, [], ◌∷◌, ◌++◌, length, true, Some, None, get_or, refl, ap, ap₂, sym, ◌∙◌, subst, inl, inr, arith, max, Ordering}
+use Rattle.std.proofs.Common.{◌≡◌, ◌<◌, ◌≤◌, ℕ, zero, ◌+◌, ◌⊎◌, List, [], ◌∷◌, ◌++◌, length, true, Option, Some, None, get_or, refl, ap, ap₂, sym, ◌∙◌, subst, inl, inr, arith, max, Ordering}
 use Rattle.std.specs.List.{All}
 use Rattle.std.specs.List.Sorted.{IsPermutation, IsSorted}
 use Rattle.std.specs.Ordering.{nat_cmp, is_lt, on, then_cmp}
@@ -9,12 +9,13 @@ use Rattle.std.proofs.lemmas.List.{get_or_append_left, get_or_push, get_or_past,
 use Rattle.std.proofs.lemmas.List.Elements.{Contains-get_or}
 use Rattle.std.proofs.lemmas.List.Sorted.{ranks_by, sorted_far, All-permutation, Contains-permutation}
 use Rattle.std.proofs.lemmas.Bool.{cases_lt, lt-ltb, le-ltb, eq-eqb, false≢true}
-use Rattle.hc_net.specs.Circuit.{node_at}
+use Rattle.hc_net.specs.Circuit.{node_at, AreRams}
 use Rattle.hc_net.specs.Seal.{Within}
-use Rattle.hc_net.specs.Seal.Within.{input, flop, wire, zero, one, negation, conjunction, disjunction, exclusion}
-use Rattle.hc_net.specs.Order.{GateReads, Reads, entry_at, level_at, gate_level, node_level, AreLevels, IsOrder, AreDriven, IfGate, GatesReadEarlier}
+use Rattle.hc_net.specs.Seal.Within.{input, flop, wire, ram, zero, one, negation, conjunction, disjunction, exclusion}
+use Rattle.hc_net.specs.Order.{GateReads, Reads, entry_at, level_at, gate_level, node_level, AreLevels, IsOrder, AreDriven, IfGate, GatesReadEarlier, HasRank, HaveRanks}
 use Rattle.hc_net.specs.declared.node.Node.{Node}
-use Rattle.hc_net.specs.declared.node.Node.TheVariants.{Input, Flop, Wire, Gate}
+use Rattle.hc_net.specs.declared.node.Node.TheVariants.{Input, Flop, Wire, Gate, Ram}
+use Rattle.hc_net.specs.declared.ram.RamCell.{RamCell}
 use Rattle.hc_net.specs.declared.gate.GateKind.{GateKind}
 use Rattle.hc_net.specs.declared.gate.GateKind.TheVariants as kind
 use Rattle.hc_net.specs.declared.seal.order.Leveled.{Leveled}
@@ -33,12 +34,15 @@ reads_weaker P Q (Flop name init d) w r = tt
 reads_weaker P Q (Wire rank None) w r = tt
 reads_weaker P Q (Wire rank (Some d)) w r = w d r
 reads_weaker P Q (Gate g a b) w r = gate_reads_weaker P Q g a b w r
+reads_weaker P Q (Ram rank first None) w r = w first r
+reads_weaker P Q (Ram rank first (Some m)) w r = λ i d within. w _ (r i d within)
 
 pub if_gate_weaker : (P Q : ℕ → Type 0) (n : Node) → ((x : ℕ) → P x → Q x) → IfGate (GateReads P) n → IfGate (GateReads Q) n
 if_gate_weaker P Q (Input p i) w r = tt
 if_gate_weaker P Q (Flop name init d) w r = tt
 if_gate_weaker P Q (Wire rank from) w r = tt
 if_gate_weaker P Q (Gate g a b) w r = gate_reads_weaker P Q g a b w r
+if_gate_weaker P Q (Ram rank first m) w r = tt
 
 abbrev leveled : ℕ → ℕ → Leveled
 leveled level net = record { level = level; net = net }
@@ -51,6 +55,7 @@ node_level_push : (levels : List Leveled) (e : Leveled) (n : Node) → IfGate (G
 node_level_push levels e (Input p i) r = refl
 node_level_push levels e (Flop name init d) r = refl
 node_level_push levels e (Wire rank from) r = refl
+node_level_push levels e (Ram rank first m) r = refl
 node_level_push levels e (Gate kind.Zero a b) r = refl
 node_level_push levels e (Gate kind.One a b) r = refl
 node_level_push levels e (Gate kind.Not a b) r = level_push levels e a r
@@ -97,6 +102,7 @@ level_within : (nodes : List Node) (levels : List Leveled) (r : ℕ) → AreLeve
 level_within nodes levels r l _ (input k p i e) = at_most nodes levels l k r (Input p i) e (omega arith)
 level_within nodes levels r l _ (flop k name init d e) = at_most nodes levels l k r (Flop name init d) e (omega arith)
 level_within nodes levels r l _ (wire k q from e below) = at_most nodes levels l k r (Wire q from) e (omega arith)
+level_within nodes levels r l _ (ram k q first m e below) = at_most nodes levels l k r (Ram q first m) e (omega arith)
 level_within nodes levels r l _ (zero k a b e) = at_most nodes levels l k r (Gate kind.Zero a b) e (omega arith)
 level_within nodes levels r l _ (one k a b e) = at_most nodes levels l k r (Gate kind.One a b) e (omega arith)
 level_within nodes levels r l _ (negation k a b e w) = at_most nodes levels l k r (Gate kind.Not a b) e (level_within nodes levels r l a w)
@@ -124,17 +130,37 @@ gate_both P Q kind.And a b p q = ((p.0, q.0), (p.1, q.1))
 gate_both P Q kind.Or a b p q = ((p.0, q.0), (p.1, q.1))
 gate_both P Q kind.Xor a b p q = ((p.0, q.0), (p.1, q.1))
 
-node_before : (nodes : List Node) (levels : List Leveled) (k : ℕ) (n : Node) → AreLevels nodes levels → AreDriven nodes → k < length nodes → node_at nodes k ≡ n → level_at levels k ≡ node_level levels n → IfGate (GateReads (λ x. x < k)) n → Reads (λ x. (x < length nodes) × Before levels x k) n
-node_before nodes levels k (Input p i) l driven within is at r = tt
-node_before nodes levels k (Flop name init d) l driven within is at r = tt
-node_before nodes levels k (Wire rank None) l driven within is at r = tt
-node_before nodes levels k (Wire rank (Some d)) l driven within is at r =
+-- a net whose node is a placeholder has its level, also one that isn't there
+level_of : (nodes : List Node) (levels : List Leveled) (k : ℕ) (n : Node) → AreLevels nodes levels → k < length nodes → node_at nodes k ≡ n → level_at levels k ≡ node_level levels n
+level_of nodes levels k n l within is = ap (λ (x : Leveled). x.level) (l.each k within) ∙ ap (node_level levels) is
+
+-- an address net comes before the RAM's outputs, and the first of these before the others
+pin_before : (nodes : List Node) (levels : List Leveled) (k rank x : ℕ) → AreLevels nodes levels → k < length nodes → level_at levels k ≡ rank + 1 → (x < k) × ((from : Option ℕ) × (node_at nodes x ≡ Wire rank from)) → (x < length nodes) × Before levels x k
+pin_before nodes levels k rank x l within at pin =
+    let low = pin.0 in
+    let here : x < length nodes = omega arith in
+    let level = level_of nodes levels x (Wire rank pin.1.0) l here pin.1.1 in
+    (here, inr (omega arith, low))
+
+node_before : (nodes : List Node) (levels : List Leveled) (k : ℕ) (n : Node) → AreLevels nodes levels → AreDriven nodes → AreRams nodes → k < length nodes → node_at nodes k ≡ n → level_at levels k ≡ node_level levels n → IfGate (GateReads (λ x. x < k)) n → Reads (λ x. (x < length nodes) × Before levels x k) n
+node_before nodes levels k (Input p i) l driven rams within is at r = tt
+node_before nodes levels k (Flop name init d) l driven rams within is at r = tt
+node_before nodes levels k (Wire rank None) l driven rams within is at r = tt
+node_before nodes levels k (Wire rank (Some d)) l driven rams within is at r =
     let w = driven k rank (Some d) within is in
     let same : d ≡ w.0 = cc in
     let low = level_within nodes levels rank l w.0 w.3 in
     subst (λ (x : ℕ). (x < length nodes) × Before levels x k) (sym same) (w.2, inl (omega arith))
-node_before nodes levels k (Gate g a b) l driven within is at r =
+node_before nodes levels k (Gate g a b) l driven rams within is at r =
     gate_reads_weaker (λ x. (x < k) × Before levels x k) (λ x. (x < length nodes) × Before levels x k) g a b (λ x p. (omega arith, p.1)) (gate_both (λ x. x < k) (λ x. Before levels x k) g a b r (gate_before levels k g a b at r))
+node_before nodes levels k (Ram rank first None) l driven rams within is at r =
+    let o = rams.other k rank first is in
+    let low = o.2 in
+    let here : first < length nodes = omega arith in
+    let level = level_of nodes levels first (Ram rank first (Some o.0)) l here o.1 in
+    (here, inr (omega arith, low))
+node_before nodes levels k (Ram rank first (Some m)) l driven rams within is at r =
+    λ i d inside. pin_before nodes levels k rank _ l within at ((rams.first k rank first m is).2 i d inside)
 
 -- the order of entries
 abbrev cmp : Leveled → Leveled → Ordering
@@ -154,7 +180,7 @@ less_before x y (inr (level, net)) = elim (cases_lt x.level y.level) [
       rw (not_less, same, less) refl
 ]
 
-module _ (nodes : List Node) (levels order : List Leveled) (l : AreLevels nodes levels) (driven : AreDriven nodes) (gates : GatesReadEarlier nodes) (moved : IsPermutation levels order) (sorted : IsSorted cmp order) where
+module _ (nodes : List Node) (levels order : List Leveled) (l : AreLevels nodes levels) (driven : AreDriven nodes) (rams : AreRams nodes) (gates : GatesReadEarlier nodes) (moved : IsPermutation levels order) (sorted : IsSorted cmp order) where
   -- an entry has its net's level
   abbrev IsEntry : Leveled → Type 0
   IsEntry e = (e.net < length nodes) × (e.level ≡ level_at levels e.net)
@@ -200,5 +226,16 @@ module _ (nodes : List Node) (levels order : List Leveled) (l : AreLevels nodes 
     after = λ i within.
         let k = (entry_at order i).net in
         let here = (entries i (leveled 0 0) within).0 in
-        reads_weaker (λ x. (x < length nodes) × Before levels x k) (λ x. (j : ℕ) × (j < i) × ((entry_at order j).net ≡ x)) (node_at nodes k) (λ x p. earlier i x within p.0 p.1) (node_before nodes levels k (node_at nodes k) l driven here refl (ap (λ (x : Leveled). x.level) (l.each k here)) (gates k here));
+        reads_weaker (λ x. (x < length nodes) × Before levels x k) (λ x. (j : ℕ) × (j < i) × ((entry_at order j).net ≡ x)) (node_at nodes k) (λ x p. earlier i x within p.0 p.1) (node_before nodes levels k (node_at nodes k) l driven rams here refl (ap (λ (x : Leveled). x.level) (l.each k here)) (gates k here));
   }
+
+-- the rank of a placeholder is at most the last one
+rank_of : (nodes : List Node) (k : ℕ) (n : Node) → AreRams nodes → node_at nodes k ≡ n → HasRank n
+rank_of nodes k (Input p i) rams is = tt
+rank_of nodes k (Flop name init d) rams is = tt
+rank_of nodes k (Wire rank from) rams is = rams.ranks k rank from is
+rank_of nodes k (Gate g a b) rams is = tt
+rank_of nodes k (Ram rank first m) rams is = tt
+
+pub have_ranks : (nodes : List Node) → AreRams nodes → HaveRanks nodes
+have_ranks nodes rams k within = rank_of nodes k (node_at nodes k) rams refl

@@ -1,8 +1,13 @@
+pub mod Lists
+pub mod Rams
 pub mod Nodes
+pub mod MadeRams
 pub mod Built
 pub mod Settles
 pub mod Counts
 pub mod Levels
+pub mod Cells
 pub mod Places
 pub mod First
+pub mod Moved
 pub mod Sealed

@@ -6,21 +6,16 @@ use Rattle.std.proofs.lemmas.List.{append-nil, get_or_append_left, get_or-append
 use Rattle.std.proofs.lemmas.List.FromFn.{length-range_with_len, map-range_with_len_more}
 use Rattle.std.proofs.lemmas.Bool.{cases_lt, cases_eq}
 use Rattle.hc_net.specs.Run.{Trace, input_bits, input_bits_from}
-use Rattle.hc_net.specs.Circuit.{Circuit, History, Does, Explains, Extends, node_at, input_count, input_nodes, input_bits_of, NodeReadsWithin, IsBuilt, with_node, with_node_at, with_input, with_output, reading, IsUnfed, IsUndriven}
+use Rattle.hc_net.specs.Circuit.{Circuit, History, Does, Explains, Extends, node_at, input_count, input_nodes, input_bits_of, NodeReadsWithin, IsBuilt, IsAlone, with_node, with_node_at, with_input, with_output, reading, IsUnfed, IsUndriven}
 use Rattle.hc_net.specs.declared.net.Port.{Port}
 use Rattle.hc_net.specs.declared.net.Port.TheVariants as port
 use Rattle.hc_net.specs.declared.node.Node.{Node}
-use Rattle.hc_net.specs.declared.node.Node.TheVariants.{Input, Flop, Wire, Gate}
+use Rattle.hc_net.specs.declared.node.Node.TheVariants.{Input, Flop, Wire, Gate, Ram}
+use Rattle.hc_net.proofs.Lists.{input_bits_of-append, node_at-append, node_at_past, input_bits_of-connected}
+use Rattle.hc_net.proofs.Rams.{Plain, AreRams-alone, AreRams-connected, AreRams-plain}
 
 zero_plus : (n : ℕ) → 0 + n ≡ n
 zero_plus n = omega arith
-
-pub input_bits_of-append : (xs ys : List Node) → input_bits_of (xs ++ ys) ≡ input_bits_of xs ++ input_bits_of ys
-input_bits_of-append [] ys = refl
-input_bits_of-append (Input p i ∷ xs) ys = ap (λ l. (p, i) ∷ l) (input_bits_of-append xs ys)
-input_bits_of-append (Flop name init d ∷ xs) ys = input_bits_of-append xs ys
-input_bits_of-append (Wire rank from ∷ xs) ys = input_bits_of-append xs ys
-input_bits_of-append (Gate g a b ∷ xs) ys = input_bits_of-append xs ys
 
 pub input_bits_of-inputs : (p : ℕ) (xs : List ℕ) → input_bits_of (map (λ i. Input p i) xs) ≡ map (λ i. (p, i)) xs
 input_bits_of-inputs p [] = refl
@@ -58,13 +53,6 @@ input_count_le [] = omega arith
 input_count_le (port.Input n w s ∷ ps) = omega (arith, input_count_le ps)
 input_count_le (port.Output n w s f ∷ ps) = omega (arith, input_count_le ps)
 
--- the node of a net after an append
-pub node_at-append : (xs ys : List Node) (k : ℕ) → k < length xs → node_at (xs ++ ys) k ≡ node_at xs k
-node_at-append xs ys k h = get_or_append_left xs ys _ k h
-
-pub node_at_past : (xs : List Node) (k : ℕ) → length xs ≤ k → node_at xs k ≡ Wire 0 None
-node_at_past xs k h = get_or_past xs k _ h
-
 pub extends_append : (xs ys : List Node) → Extends xs (xs ++ ys)
 extends_append xs ys trace h e = record {
   each = λ k. elim (cases_lt k (length xs)) [
@@ -83,6 +71,7 @@ does_reading trace h k d (Wire rank None) u e = tt
 does_reading trace h k d (Wire rank (Some x)) (inl u) e = absurd u
 does_reading trace h k d (Wire rank (Some x)) (inr u) e = absurd u
 does_reading trace h k d (Gate g a b) u e = e
+does_reading trace h k d (Ram rank first ram) u e = e
 
 pub extends_set : (xs : List Node) (k d : ℕ) → k < length xs → IsUnfed (node_at xs k) ⊎ IsUndriven (node_at xs k) → Extends xs (set xs k (reading d (node_at xs k)))
 extends_set xs k d within u trace h e = record {
@@ -101,6 +90,7 @@ fed_value trace h k d (Flop name init (Some x)) u e t = absurd u
 fed_value trace h k d (Input p i) u e t = absurd u
 fed_value trace h k d (Wire rank from) u e t = absurd u
 fed_value trace h k d (Gate g a b) u e t = absurd u
+fed_value trace h k d (Ram rank first ram) u e t = absurd u
 
 driven_value : (trace : Trace) (h : History) (k d : ℕ) (n : Node) → IsUndriven n → Does trace h k (reading d n) → (t : ℕ) → h t k ≡ h t d
 driven_value trace h k d (Wire rank None) u e t = e t
@@ -108,6 +98,7 @@ driven_value trace h k d (Wire rank (Some x)) u e t = absurd u
 driven_value trace h k d (Input p i) u e t = absurd u
 driven_value trace h k d (Flop name init x) u e t = absurd u
 driven_value trace h k d (Gate g a b) u e t = absurd u
+driven_value trace h k d (Ram rank first ram) u e t = absurd u
 
 pub set_node_at : (xs : List Node) (k : ℕ) (n : Node) → k < length xs → node_at (set xs k n) k ≡ n
 set_node_at xs k n within = get_or-set_same xs k n _ within
@@ -130,8 +121,10 @@ reads_longer m n k (Flop name init (Some d)) le r = omega arith
 reads_longer m n k (Wire rank None) le r = tt
 reads_longer m n k (Wire rank (Some d)) le r = omega arith
 reads_longer m n k (Gate g a b) le r = r
+reads_longer m n k (Ram rank first None) le r = r
+reads_longer m n k (Ram rank first (Some ram)) le r = r
 
-all_longer : (m n : ℕ) (xs : List ℕ) → m ≤ n → All (λ k. k < m) xs → All (λ k. k < n) xs
+pub all_longer : (m n : ℕ) (xs : List ℕ) → m ≤ n → All (λ k. k < m) xs → All (λ k. k < n) xs
 all_longer m n xs le all = λ i d within. let h = all i d within in omega arith
 
 reads_append : (k : ℕ) (xs : List Node) (node : Node) → ((j : ℕ) → j < length xs → NodeReadsWithin (length xs) j (node_at xs j)) → NodeReadsWithin (length xs) (length xs) node → k < length (xs ++ node ∷ []) → NodeReadsWithin (length (xs ++ node ∷ [])) k (node_at (xs ++ node ∷ []) k)
@@ -144,8 +137,16 @@ reads_append k xs node each last within =
           subst (λ (m : Node). NodeReadsWithin (length (xs ++ node ∷ [])) k m) (sym (get_or_push xs node _ k (sym at))) (reads_longer (length xs) _ k node (omega arith) (subst (λ (j : ℕ). NodeReadsWithin (length xs) j node) (sym at) last))
     ]
 
-pub IsBuilt-node : (c : Circuit) (node : Node) → IsBuilt c → input_bits_of (node ∷ []) ≡ [] → NodeReadsWithin (length c.nodes) (length c.nodes) node → length c.nodes + 1 < 2 ^ 32 → IsBuilt (with_node c node)
-IsBuilt-node c node b other last room =
+alone_no_input : (node : Node) → IsAlone node → input_bits_of (node ∷ []) ≡ []
+alone_no_input (Input p i) a = absurd a
+alone_no_input (Flop name init d) a = refl
+alone_no_input (Wire rank from) a = refl
+alone_no_input (Gate g x y) a = refl
+alone_no_input (Ram rank first ram) a = absurd a
+
+pub IsBuilt-node : (c : Circuit) (node : Node) → IsBuilt c → IsAlone node → NodeReadsWithin (length c.nodes) (length c.nodes) node → length c.nodes + 1 < 2 ^ 32 → IsBuilt (with_node c node)
+IsBuilt-node c node b alone last room =
+    let other : input_bits_of (node ∷ []) ≡ [] = alone_no_input node alone in
     let size = length_push c.nodes node in
     record {
       reads = λ k within. reads_append k c.nodes node b.reads last within;
@@ -153,6 +154,7 @@ IsBuilt-node c node b other last room =
       outputs = λ j name width pins from there. let o = b.outputs j name width pins from there in (o.0, all_longer _ _ from (omega arith) o.1);
       few_nets = omega arith;
       few_ports = b.few_ports;
+      rams = AreRams-alone c.nodes node b.rams alone;
     }
 
 reads_connected : (n k d : ℕ) (node : Node) → d < n → NodeReadsWithin n k node → NodeReadsWithin n k (reading d node)
@@ -160,17 +162,7 @@ reads_connected n k d (Input p i) le r = tt
 reads_connected n k d (Flop name init x) le r = le
 reads_connected n k d (Wire rank x) le r = le
 reads_connected n k d (Gate g a b) le r = r
-
-input_bits_of-connected : (xs : List Node) (k d : ℕ) → input_bits_of (set xs k (reading d (node_at xs k))) ≡ input_bits_of xs
-input_bits_of-connected [] k d = refl
-input_bits_of-connected (Input p i ∷ xs) zero d = refl
-input_bits_of-connected (Flop name init x ∷ xs) zero d = refl
-input_bits_of-connected (Wire rank x ∷ xs) zero d = refl
-input_bits_of-connected (Gate g a b ∷ xs) zero d = refl
-input_bits_of-connected (Input p i ∷ xs) (suc k) d = ap (λ l. (p, i) ∷ l) (input_bits_of-connected xs k d)
-input_bits_of-connected (Flop name init x ∷ xs) (suc k) d = input_bits_of-connected xs k d
-input_bits_of-connected (Wire rank x ∷ xs) (suc k) d = input_bits_of-connected xs k d
-input_bits_of-connected (Gate g a b ∷ xs) (suc k) d = input_bits_of-connected xs k d
+reads_connected n k d (Ram rank first ram) le r = r
 
 pub IsBuilt-connected : (c : Circuit) (k d : ℕ) → IsBuilt c → k < length c.nodes → d < length c.nodes → IsBuilt (with_node_at c k (reading d (node_at c.nodes k)))
 IsBuilt-connected c k d b within there =
@@ -184,9 +176,15 @@ IsBuilt-connected c k d b within there =
       outputs = λ j name width pins from at. let o = b.outputs j name width pins from at in (o.0, all_longer _ _ from (omega arith) o.1);
       few_nets = omega arith;
       few_ports = b.few_ports;
+      rams = AreRams-connected c.nodes k d b.rams;
     }
 
 -- input ports
+inputs_plain : (p : ℕ) (xs : List ℕ) (k : ℕ) → Plain (node_at (map (λ i. Input p i) xs) k)
+inputs_plain p [] k = omega arith
+inputs_plain p (x ∷ xs) zero = tt
+inputs_plain p (x ∷ xs) (suc k) = inputs_plain p xs k
+
 inputs_read : (n k p : ℕ) (xs : List ℕ) (i : ℕ) → NodeReadsWithin n k (node_at (map (λ i. Input p i) xs) i)
 inputs_read n k p [] i = tt
 inputs_read n k p (x ∷ xs) zero = tt
@@ -220,6 +218,7 @@ IsBuilt-input c name width pins b nets ports =
       ];
       few_nets = omega arith;
       few_ports = omega arith;
+      rams = AreRams-plain c.nodes more b.rams (inputs_plain p (range_with_len 0 width));
     }
 
 pub IsBuilt-output : (c : Circuit) (name : List ℕ) (pins : List (List ℕ)) (from : List ℕ) → IsBuilt c → All (λ k. k < length c.nodes) from → length c.ports + 1 < 2 ^ 32 → IsBuilt (with_output c name pins from)
@@ -237,6 +236,7 @@ IsBuilt-output c name pins from b nets ports =
       ];
       few_nets = b.few_nets;
       few_ports = omega arith;
+      rams = b.rams;
     }
 
 -- the loops over nodes

@@ -1,6 +1,7 @@
 pub mod Bits
 pub mod Label
 pub mod Gate
+pub mod Ram
 pub mod Run
 pub mod Valid
 pub mod Circuit
@@ -9,3 +10,4 @@ pub mod Made
 pub mod MadeLemmas
 pub mod Order
 pub mod Place
+pub mod Frame

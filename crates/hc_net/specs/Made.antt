@@ -3,7 +3,7 @@ use Rattle.std.specs.Prelude.{◌≡◌, ◌<◌, ◌≤◌, ℕ, List, ◌++◌
 use Rattle.hc_net.specs.Run.{Trace}
 use Rattle.hc_net.specs.Circuit.{Circuit, History, Explains, node_at}
 use Rattle.hc_net.specs.declared.node.Node.{Node}
-use Rattle.hc_net.specs.declared.node.Node.TheVariants.{Input, Flop, Wire, Gate}
+use Rattle.hc_net.specs.declared.node.Node.TheVariants.{Input, Flop, Wire, Gate, Ram}
 use Rattle.hc_net.specs.declared.gate.GateKind.TheVariants as kind
 
 -- net k is one of these nets, or a gate that reads such nets alone: what it reaches back to, these nets name
@@ -22,6 +22,7 @@ IsGate (Input p i) = ⊥
 IsGate (Flop name init d) = ⊥
 IsGate (Wire rank from) = ⊥
 IsGate (Gate g a b) = Unit {0}
+IsGate (Ram rank first ram) = ⊥
 
 -- gates alone are added, at most so many, and nothing else changes
 pub record Adds (most : ℕ) (old new : Circuit) : Type 0 where

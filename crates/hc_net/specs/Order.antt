@@ -1,9 +1,9 @@
 -- A level for each net, and the order in which nets get their places: each after the nets that it reads in its clock.
-use Rattle.std.specs.Prelude.{◌≡◌, ◌<◌, ℕ, ◌+◌, List, length, Option, Some, None, slice_index_or, max}
-use Rattle.hc_net.specs.Circuit.{node_at}
+use Rattle.std.specs.Prelude.{◌≡◌, ◌<◌, ◌≤◌, ℕ, ◌+◌, List, length, Option, Some, None, slice_index_or, max, All}
+use Rattle.hc_net.specs.Circuit.{last_rank, node_at}
 use Rattle.hc_net.specs.Seal.{Within}
 use Rattle.hc_net.specs.declared.node.Node.{Node}
-use Rattle.hc_net.specs.declared.node.Node.TheVariants.{Input, Flop, Wire, Gate}
+use Rattle.hc_net.specs.declared.node.Node.TheVariants.{Input, Flop, Wire, Gate, Ram}
 use Rattle.hc_net.specs.declared.gate.GateKind.{GateKind}
 use Rattle.hc_net.specs.declared.gate.GateKind.TheVariants as kind
 use Rattle.hc_net.specs.declared.seal.order.Leveled.{Leveled}
@@ -24,6 +24,8 @@ Reads P (Flop name init d) = Unit {0}
 Reads P (Wire rank None) = Unit {0}
 Reads P (Wire rank (Some d)) = P d
 Reads P (Gate g a b) = GateReads P g a b
+Reads P (Ram rank first None) = P first
+Reads P (Ram rank first (Some r)) = All P r.addr
 
 -- an entry that isn't there stands as net 0 at level 0
 abbrev pub entry_at : List Leveled → ℕ → Leveled
@@ -41,12 +43,13 @@ gate_level levels kind.And a b = max (level_at levels a) (level_at levels b)
 gate_level levels kind.Or a b = max (level_at levels a) (level_at levels b)
 gate_level levels kind.Xor a b = max (level_at levels a) (level_at levels b)
 
--- the level of a node from those of the nodes before it: a placeholder's is above its rank
+-- the level of a node from those of the nodes before it: those of a placeholder and of a RAM are above its rank
 abbrev pub node_level : List Leveled → Node → ℕ
 node_level levels (Input p i) = 0
 node_level levels (Flop name init d) = 0
 node_level levels (Wire rank from) = rank + 1
 node_level levels (Gate g a b) = gate_level levels g a b
+node_level levels (Ram rank first ram) = rank + 1
 
 -- each net with its level
 pub record AreLevels (nodes : List Node) (levels : List Leveled) : Type 0 where
@@ -66,6 +69,7 @@ IsDriven (Flop name init d) = Unit {0}
 IsDriven (Wire rank None) = ⊥
 IsDriven (Wire rank (Some d)) = Unit {0}
 IsDriven (Gate g a b) = Unit {0}
+IsDriven (Ram rank first ram) = Unit {0}
 
 -- a placeholder is driven by what reaches smaller ranks alone
 abbrev pub AreDriven : List Node → Type 0
@@ -77,7 +81,19 @@ IfGate P (Input p i) = Unit {0}
 IfGate P (Flop name init d) = Unit {0}
 IfGate P (Wire rank from) = Unit {0}
 IfGate P (Gate g a b) = P g a b
+IfGate P (Ram rank first ram) = Unit {0}
 
 -- gates read earlier nets alone
 abbrev pub GatesReadEarlier : List Node → Type 0
 GatesReadEarlier nodes = (k : ℕ) → k < length nodes → IfGate (GateReads (λ x. x < k)) (node_at nodes k)
+
+-- a placeholder's rank is at most the last one
+abbrev pub HasRank : Node → Type 0
+HasRank (Input p i) = Unit {0}
+HasRank (Flop name init d) = Unit {0}
+HasRank (Wire rank from) = rank ≤ last_rank
+HasRank (Gate g a b) = Unit {0}
+HasRank (Ram rank first ram) = Unit {0}
+
+abbrev pub HaveRanks : List Node → Type 0
+HaveRanks nodes = (k : ℕ) → k < length nodes → HasRank (node_at nodes k)

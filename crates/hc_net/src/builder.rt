@@ -1,8 +1,10 @@
-ghost use Rattle.std.specs.Prelude.{◌≡◌, ◌<◌, ◌≤◌, ℕ, suc, ◌+◌, ◌^◌, List, [], length, Option, Some, None, slice_get, IfOk, OnOk, OnErr, All, ◌∷◌, ◌++◌, ◌-◌, ◌⊎◌, take};
+ghost use Rattle.std.specs.Prelude.{◌≡◌, ◌<◌, ◌≤◌, ℕ, suc, ◌+◌, ◌*◌, ◌^◌, List, [], length, map, Option, Some, None, slice_get, slice_set, IfOk, OnOk, OnErr, All, ◌∷◌, ◌++◌, ◌-◌, ◌⊎◌, take};
 ghost use Rattle.std.specs.List.{range_with_len};
+ghost use Rattle.hc_num.specs.Index.{index_width};
+ghost use Rattle.hc_net.specs.Ram.{held_at, read_bits};
 ghost use Rattle.hc_net.specs.Gate.{gate_bit};
 ghost use Rattle.hc_net.specs.Run.{Trace};
-ghost use Rattle.hc_net.specs.Circuit.{Circuit, History, with_node, with_node_at, with_input, with_output, input_count, Explains, Extends, GateReadsBelow, IsUnfed, IsUndriven, node_at, constant_at, reading, input_bits_of, input_nodes, NodeReadsWithin};
+ghost use Rattle.hc_net.specs.Circuit.{Circuit, History, with_node, with_node_at, with_input, with_output, with_ram, ram_at, wires_at, IsAlone, input_count, Explains, Extends, GateReadsBelow, IsUnfed, IsUndriven, node_at, constant_at, reading, input_bits_of, input_nodes, NodeReadsWithin};
 ghost use Rattle.hc_net.specs.Seal.{IsSealable, Seals};
 ghost use Rattle.hc_net.specs.declared.node.Node.{Node};
 ghost use Rattle.hc_net.specs.declared.node.Node.TheVariants.{Flop, Wire, Gate};
@@ -13,7 +15,10 @@ use crate::net::{FlopName, Net, Port, Ports};
 use crate::nets::{Nets, NoMemory};
 use crate::node::{Node, Nodes};
 use crate::pins::Pins;
+use crate::ram::{Bits, RamCell, RamWires};
+use crate::ram_nodes::{add_ram, boxed};
 use crate::seal::sealed;
+use hc_num::aw;
 use sqlite_items::Items;
 use std::alloc::Global;
 use std::marker::Model;
@@ -55,10 +60,10 @@ impl Builder {
         })
     }
 
-    /// Adds a node that is no input.
+    /// Adds a node that is no input and no part of a RAM.
     fn add(&mut self, node: Node) -> Result<u32, NoMemory>
         requires room { length self.old.nodes + 1 < 2 ^ 32 }
-        requires other { input_bits_of (node ∷ []) ≡ [] }
+        requires other { IsAlone node }
         requires nets { NodeReadsWithin (length self.old.nodes) (length self.old.nodes) node }
         ensures ok { IfOk result (λ net. (net ≡ length self.old.nodes) × (self.new ≡ with_node self.old node)) }
         ensures earlier { OnOk result (Extends self.old.nodes self.new.nodes) }
@@ -79,8 +84,7 @@ impl Builder {
         ensures connected { self.new ≡ with_node_at self.old net (reading from (node_at self.old.nodes net)) }
         ensures earlier { Extends self.old.nodes self.new.nodes }
     {
-        let node = self.nodes.as_slice()[net as usize].reading(from);
-        self.nodes.set(net as usize, node);
+        read_from(&mut self.nodes, net, from);
     }
 
     /// Adds an input port, and gives the net of each bit. The pins are none or one for each bit (a rule of `seal`).
@@ -160,7 +164,10 @@ impl Builder {
         ensures earlier { OnOk result (Extends self.old.nodes self.new.nodes) }
         ensures err { OnErr result (self.new ≡ self.old) }
     {
-        self.add(Node::Wire { rank, from: None })
+        self.add(Node::Wire {
+            rank: u64::from(rank),
+            from: None,
+        })
     }
 
     /// Names the driver of a placeholder that wasn't driven yet.
@@ -189,6 +196,50 @@ impl Builder {
         self.add(Node::Gate { kind, a, b })
     }
 
+    /// Adds a RAM of `words` words of `width` bits that starts with `init`, or a ROM where its write net is driven by 0.
+    /// Its address, its write net and its data are placeholders that `drive` connects. What drives the address reaches
+    /// back through gates only placeholders and RAMs of rank below this one (a rule of `seal`).
+    pub fn ram(
+        &mut self,
+        object: u32,
+        words: u32,
+        width: u32,
+        init: &Bits,
+        rank: u32,
+    ) -> Result<RamWires, NoMemory>
+        requires width { 1 ≤ width }
+        requires room { length self.old.nodes + (index_width words + 1 + 2 * width) < 2 ^ 32 }
+        ensures ok { IfOk result (λ wires. (wires ≡ wires_at (length self.old.nodes) words width)
+            × (self.new ≡ with_ram self.old object words width init.now rank)) }
+        ensures earlier { OnOk result (Extends self.old.nodes self.new.nodes) }
+        ensures value { IfOk result (λ wires. (trace : Trace) (h : History) → Explains self.new.nodes trace h
+            → let ram = ram_at (length self.old.nodes) object words width init.now in
+            (t : ℕ) → map (h t) wires.q ≡ read_bits ram (held_at ram h t) (h t)) }
+        ensures err { OnErr result (self.new ≡ self.old) }
+    {
+        let net = self.nodes.len() as u32;
+        let we = net + aw(words);
+        let first = we + 1 + width;
+        let ram = RamCell {
+            object,
+            words,
+            width,
+            init: Bits::from_slice(self.alloc, init.as_slice())?,
+            addr: run_of_nets(self.alloc, net, aw(words))?,
+            we,
+            d: run_of_nets(self.alloc, we + 1, width)?,
+        };
+        let wires = RamWires {
+            q: run_of_nets(self.alloc, first, width)?,
+            addr: run_of_nets(self.alloc, net, aw(words))?,
+            we,
+            d: run_of_nets(self.alloc, we + 1, width)?,
+        };
+        let ram = boxed(self.alloc, ram)?;
+        add_ram(&mut self.nodes, ram, rank, first)?;
+        Ok(wires)
+    }
+
     /// The constant that a net has in every clock by its gate, `Zero` or `One`; `None` for any other net.
     pub fn constant(&self, net: u32) -> Option<bool>
         requires { net < length self.now.nodes }
@@ -197,7 +248,7 @@ impl Builder {
         self.nodes.as_slice()[net as usize].constant()
     }
 
-    /// The netlist: its ports and flip-flops in order, no more gates than were added, and each net with its bit.
+    /// The netlist: its ports and flip-flops in order, its RAMs, no more gates than were added, and each net with its bit.
     pub fn seal(self) -> Result<Net, NoMemory>
         requires { IsSealable self }
         ensures { IfOk result (Seals self) }
@@ -210,6 +261,16 @@ impl Builder {
             inputs: _,
         } = self;
         sealed(alloc, clock, ports, &nodes)
+    }
+}
+
+/// Names the net that a flip-flop or a placeholder reads. Any other node stays as it is.
+fn read_from(nodes: &mut Nodes, net: u32, from: u32)
+    requires { net < length nodes.old }
+    ensures { nodes.new ≡ slice_set nodes.old net (reading from (node_at nodes.old net)) }
+{
+    if let Some(node) = nodes.as_slice()[net as usize].reading(from) {
+        nodes.set(net as usize, node);
     }
 }
 

@@ -4,7 +4,8 @@ ghost use Rattle.hc_net.specs.Valid.{IsValid};
 use crate::label::Label;
 use crate::nets::Nets;
 use crate::pins::Pins;
-use sqlite_items::Items;
+use crate::ram::RamCell;
+use sqlite_items::{Boxed, Items};
 use std::marker::Model;
 
 /// A port with its name, its width in bits and its pins.
@@ -45,7 +46,7 @@ pub struct Flop {
 /// The flip-flops of a netlist, in order.
 pub type Flops = Items<Flop>;
 
-/// A gate with the nets that it reads.
+/// A gate with the nets that it reads, or a RAM.
 #[derive(Debug, Drop)]
 pub enum Cell {
     Zero,
@@ -54,12 +55,14 @@ pub enum Cell {
     And(u32, u32),
     Or(u32, u32),
     Xor(u32, u32),
+    Ram(Boxed<RamCell>),
 }
 
-/// The gates of a netlist, in order.
+/// The gates and RAMs of a netlist, in order.
 pub type Cells = Items<Cell>;
 
-/// The data of a netlist. Nets are numbered: input bits, then flip-flops, then the outputs of cells.
+/// The data of a netlist. Nets are numbered: input bits, then flip-flops, then the outputs of
+/// cells, a RAM giving one for each bit of a word.
 #[derive(Debug, Drop)]
 pub struct RawNet {
     pub clock: Label,
@@ -86,8 +89,8 @@ impl Model for Net {
 }
 
 impl Net {
-    /// The netlist with this data.
-    pub(crate) fn new(raw: RawNet) -> Net
+    /// The netlist with these data, which keep the rules of a valid netlist.
+    pub fn from_raw(raw: RawNet) -> Net
         requires { IsValid raw }
         ensures { result ≡ raw }
     {

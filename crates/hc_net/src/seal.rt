@@ -14,7 +14,8 @@ use crate::node::Nodes;
 use std::alloc::Global;
 
 /// The netlist of what a builder has collected. Input bits and flip-flops get their places first. Then each net gets
-/// its place after those that it reads in the same clock: a gate that of a new cell, a placeholder that of its driver.
+/// its place after those that it reads in the same clock: a gate and a RAM those of a new cell, a placeholder that of its
+/// driver. At last the nets of flip-flops, RAMs and outputs are renamed.
 pub(crate) fn sealed(
     alloc: Global,
     clock: Label,
@@ -29,9 +30,11 @@ pub(crate) fn sealed(
     let order = order::order(alloc, nodes)?;
     let (mut places, base) = places::first_places(alloc, nodes)?;
     let cells = cells::cells(alloc, nodes, order.as_slice(), base, places.as_mut_slice())?;
+    drop(order);
+    let cells = parts::cells(alloc, cells, places.as_slice())?;
     let flops = parts::flops(alloc, nodes, places.as_slice())?;
     let ports = parts::ports(alloc, ports, places.as_slice())?;
-    Ok(Net::new(RawNet {
+    Ok(Net::from_raw(RawNet {
         clock,
         ports,
         flops,

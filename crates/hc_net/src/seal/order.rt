@@ -1,5 +1,6 @@
 ghost use Rattle.std.specs.Prelude.{◌≡◌, ◌<◌, ◌^◌, length, IfOk};
-ghost use Rattle.hc_net.specs.Order.{AreLevels, AreDriven, GateReads, GatesReadEarlier, IfGate, IsOrder, node_level};
+ghost use Rattle.hc_net.specs.Circuit.{AreRams};
+ghost use Rattle.hc_net.specs.Order.{AreLevels, AreDriven, GateReads, GatesReadEarlier, HaveRanks, HasRank, IfGate, IsOrder, node_level};
 
 use crate::gate::GateKind;
 use crate::nets::NoMemory;
@@ -19,6 +20,7 @@ pub(crate) fn order(alloc: Global, nodes: &[Node]) -> Result<Vec<Leveled>, NoMem
     requires few { length nodes.now < 2 ^ 32 }
     requires gates { GatesReadEarlier nodes.now }
     requires driven { AreDriven nodes.now }
+    requires rams { AreRams nodes.now }
     ensures { IfOk result (λ order. IsOrder nodes.now order.items) }
 {
     let mut order = levels(alloc, nodes)?;
@@ -30,9 +32,12 @@ pub(crate) fn order(alloc: Global, nodes: &[Node]) -> Result<Vec<Leveled>, NoMem
 fn levels(alloc: Global, nodes: &[Node]) -> Result<Vec<Leveled>, NoMemory>
     requires few { length nodes.now < 2 ^ 32 }
     requires gates { GatesReadEarlier nodes.now }
+    requires ranks { HaveRanks nodes.now }
     ensures { IfOk result (λ levels. AreLevels nodes.now levels.items) }
 {
-    let mut levels = Vec::new(alloc);
+    let Ok(mut levels) = Vec::with_capacity(alloc, nodes.len()) else {
+        return Err(NoMemory);
+    };
     for node in nodes {
         let entry = Leveled {
             level: node_level(node, levels.as_slice()),
@@ -46,9 +51,10 @@ fn levels(alloc: Global, nodes: &[Node]) -> Result<Vec<Leveled>, NoMemory>
     Ok(levels)
 }
 
-/// A gate's level is the greatest of those that it reads, and a placeholder's is above its rank.
+/// A gate's level is the greatest of those that it reads, and those of a placeholder and of a RAM are above their rank.
 fn node_level(node: &Node, levels: &[Leveled]) -> u64
-    requires { IfGate (GateReads (λ k. k < length levels.now)) node.now }
+    requires gate { IfGate (GateReads (λ k. k < length levels.now)) node.now }
+    requires rank { HasRank node.now }
     ensures { result ≡ node_level levels.now node.now }
 {
     match node {
@@ -58,7 +64,7 @@ fn node_level(node: &Node, levels: &[Leveled]) -> u64
             init: _,
             d: _,
         } => 0,
-        Node::Wire { rank, from: _ } => u64::from(*rank) + 1,
+        Node::Wire { rank, from: _ } => *rank + 1,
         Node::Gate { kind, a, b } => match kind {
             GateKind::Zero => 0,
             GateKind::One => 0,
@@ -67,5 +73,10 @@ fn node_level(node: &Node, levels: &[Leveled]) -> u64
             GateKind::Or => levels[*a as usize].level.max(levels[*b as usize].level),
             GateKind::Xor => levels[*a as usize].level.max(levels[*b as usize].level),
         },
+        Node::Ram {
+            rank,
+            first: _,
+            ram: _,
+        } => u64::from(*rank) + 1,
     }
 }

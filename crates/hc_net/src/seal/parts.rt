@@ -1,10 +1,13 @@
 ghost use Rattle.std.specs.Prelude.{◌≡◌, ◌∷◌, [], ◌++◌, IfOk, OnOk, map};
+ghost use Rattle.hc_net.specs.Ram.{moved};
 ghost use Rattle.hc_net.specs.Seal.{placed};
-ghost use Rattle.hc_net.specs.Place.{flops_with, place_of};
+ghost use Rattle.hc_net.specs.Place.{flops_with, place_of, with_moved_ram};
 
-use crate::net::{Flop, Flops, Port, Ports};
+use crate::net::{Cell, Cells, Flop, Flops, Port, Ports};
 use crate::nets::{Nets, NoMemory};
 use crate::node::Node;
+use crate::ram::RamCell;
+use crate::ram_nodes::boxed;
 use crate::seal::places::place_of;
 use sqlite_items::Items;
 use std::alloc::Global;
@@ -46,6 +49,11 @@ fn add_flop(flops: &mut Flops, node: &Node, places: &[Option<u32>]) -> Result<()
             kind: _,
             a: _,
             b: _,
+        } => Ok(()),
+        Node::Ram {
+            rank: _,
+            first: _,
+            ram: _,
         } => Ok(()),
     }
 }
@@ -99,4 +107,68 @@ fn nets(alloc: Global, nets: &[u32], places: &[Option<u32>]) -> Result<Nets, NoM
         renamed.push(place_of(places, *net))?;
     }
     Ok(renamed)
+}
+
+/// The cells in order, with the nets of RAMs renamed.
+pub(crate) fn cells(
+    alloc: Global,
+    mut cells: Cells,
+    places: &[Option<u32>],
+) -> Result<Cells, NoMemory>
+    ensures { IfOk result (λ renamed. renamed ≡ map (with_moved_ram (place_of places.now)) cells) }
+{
+    let Ok(mut renamed) = Vec::with_capacity(alloc, cells.len()) else {
+        return Err(NoMemory);
+    };
+    while let Some(cell) = cells.pop() {
+        let cell = with_moved_ram(alloc, cell, places)?;
+        match renamed.push(cell) {
+            Ok(()) => {}
+            Err(_) => return Err(NoMemory),
+        }
+    }
+    renamed.reverse();
+    Ok(Items::from_vec(renamed))
+}
+
+/// A RAM with its nets renamed, and a gate as it is.
+fn with_moved_ram(alloc: Global, cell: Cell, places: &[Option<u32>]) -> Result<Cell, NoMemory>
+    ensures { IfOk result (λ renamed. renamed ≡ with_moved_ram (place_of places.now) cell) }
+{
+    match cell {
+        Cell::Zero => Ok(Cell::Zero),
+        Cell::One => Ok(Cell::One),
+        Cell::Not(a) => Ok(Cell::Not(a)),
+        Cell::And(a, b) => Ok(Cell::And(a, b)),
+        Cell::Or(a, b) => Ok(Cell::Or(a, b)),
+        Cell::Xor(a, b) => Ok(Cell::Xor(a, b)),
+        Cell::Ram(ram) => {
+            let ram = moved(alloc, ram.into_inner(), places)?;
+            Ok(Cell::Ram(boxed(alloc, ram)?))
+        }
+    }
+}
+
+/// A RAM with its nets renamed.
+fn moved(alloc: Global, ram: RamCell, places: &[Option<u32>]) -> Result<RamCell, NoMemory>
+    ensures { IfOk result (λ renamed. renamed ≡ moved (place_of places.now) ram) }
+{
+    let RamCell {
+        object,
+        words,
+        width,
+        init,
+        addr,
+        we,
+        d,
+    } = ram;
+    Ok(RamCell {
+        object,
+        words,
+        width,
+        init,
+        addr: nets(alloc, addr.as_slice(), places)?,
+        we: place_of(places, we),
+        d: nets(alloc, d.as_slice(), places)?,
+    })
 }

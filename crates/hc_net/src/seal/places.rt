@@ -23,6 +23,11 @@ fn inputs_in(node: &Node) -> u32
             a: _,
             b: _,
         } => 0,
+        Node::Ram {
+            rank: _,
+            first: _,
+            ram: _,
+        } => 0,
     }
 }
 
@@ -42,6 +47,11 @@ fn flops_in(node: &Node) -> u32
             kind: _,
             a: _,
             b: _,
+        } => 0,
+        Node::Ram {
+            rank: _,
+            first: _,
+            ram: _,
         } => 0,
     }
 }
@@ -75,6 +85,11 @@ fn place_from(node: &Node, input: u32, flop: u32) -> Option<u32>
             a: _,
             b: _,
         } => None,
+        Node::Ram {
+            rank: _,
+            first: _,
+            ram: _,
+        } => None,
     }
 }
 
@@ -87,7 +102,9 @@ pub(crate) fn first_places(
     ensures places { IfOk result (λ first. AreFirst nodes.now first.0.items) }
     ensures base { IfOk result (λ first. first.1 ≡ base_of nodes.now) }
 {
-    let mut places = Vec::new(alloc);
+    let Ok(mut places) = Vec::with_capacity(alloc, nodes.len()) else {
+        return Err(NoMemory);
+    };
     let mut input = 0;
     let mut flop = count_inputs(nodes);
     for node in nodes {
