@@ -15,7 +15,7 @@ use Rattle.hc_net.specs.Bits.{bit}
 use Rattle.hc_net.specs.Circuit.{Circuit, Extends, IsUnfed, IsUndriven, node_at, reading, with_node_at}
 use Rattle.hc_net.specs.declared.net.FlopName.TheVariants.{Bit}
 use Rattle.hc_net.specs.declared.node.Node.{Node}
-use Rattle.hc_net.specs.declared.node.Node.TheVariants.{Input, Flop, Wire, Gate}
+use Rattle.hc_net.specs.declared.node.Node.TheVariants.{Input, Flop, Wire, Gate, Ram}
 use Rattle.hc_value.specs.Objects.{nets_of}
 use Rattle.hc_value.specs.declared.objects.ObjectNets.{ObjectNets}
 use Rattle.hc_control.specs.Right.{net_count}
@@ -31,6 +31,7 @@ bare-reading d (Input p i) = refl
 bare-reading d (Flop name init x) = refl
 bare-reading d (Wire rank x) = refl
 bare-reading d (Gate g a b) = refl
+bare-reading d (Ram rank first ram) = refl
 
 map_bare : (nodes : List Node) (k d : ℕ) → map bare (set nodes k (reading d (node_at nodes k))) ≡ map bare nodes
 map_bare [] k d = refl
@@ -228,6 +229,7 @@ open_unfed (Flop name init None) u = refl
 open_unfed (Flop name init (Some d)) u = absurd u
 open_unfed (Wire rank x) u = absurd u
 open_unfed (Gate g a b) u = absurd u
+open_unfed (Ram rank first ram) u = absurd u
 
 open_undriven : (n : Node) → IsUndriven n → is_open n ≡ true
 open_undriven (Input p i) u = absurd u
@@ -235,6 +237,7 @@ open_undriven (Flop name init x) u = absurd u
 open_undriven (Wire rank None) u = refl
 open_undriven (Wire rank (Some d)) u = absurd u
 open_undriven (Gate g a b) u = absurd u
+open_undriven (Ram rank first ram) u = absurd u
 
 -- Where an object stands, and what its source is: the nets that read are in a row behind those of the objects before it,
 -- and open.

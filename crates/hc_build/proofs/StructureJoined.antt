@@ -19,7 +19,7 @@ use Rattle.hc_net.specs.declared.net.FlopName.{FlopName}
 use Rattle.hc_net.specs.declared.gate.GateKind.{GateKind}
 use Rattle.hc_net.specs.declared.gate.GateKind.TheVariants as gate
 use Rattle.hc_net.specs.declared.node.Node.{Node}
-use Rattle.hc_net.specs.declared.node.Node.TheVariants.{Input, Flop, Wire, Gate}
+use Rattle.hc_net.specs.declared.node.Node.TheVariants.{Input, Flop, Wire, Gate, Ram}
 use Rattle.hc_value.specs.Objects.{nets_of, AreNets}
 use Rattle.hc_value.specs.declared.objects.ObjectNets.{ObjectNets}
 use Rattle.hc_control.specs.Building.{IsControlNode}
@@ -43,6 +43,7 @@ done_closed nodes (Flop name init (Some d)) is = refl
 done_closed nodes (Wire rank None) is = absurd is
 done_closed nodes (Wire rank (Some d)) is = refl
 done_closed nodes (Gate g a b) is = refl
+done_closed nodes (Ram rank first ram) is = absurd is
 
 done_moved : (old new : List Node) → ((k : ℕ) → Within old 0 k → Within new 0 k) → (x : Node) → IsControlNode old x → IsControlNode new x
 done_moved old new moved (Input p i) is = absurd is
@@ -51,6 +52,7 @@ done_moved old new moved (Flop name init (Some d)) is = tt
 done_moved old new moved (Wire rank None) is = absurd is
 done_moved old new moved (Wire rank (Some d)) is = (is.0, moved d is.1)
 done_moved old new moved (Gate g a b) is = tt
+done_moved old new moved (Ram rank first ram) is = absurd is
 
 -- a node's bare form stands in its place among the bare forms of all
 bare_at : (nodes : List Node) (n : ℕ) → node_at (map bare nodes) n ≡ bare (node_at nodes n)
@@ -63,12 +65,14 @@ bare_flop (Input p i) name init is = absurd cc
 bare_flop (Flop n b d) name init is = let same : n ≡ name = cc in let also : b ≡ init = cc in (d, cc)
 bare_flop (Wire rank from) name init is = absurd cc
 bare_flop (Gate g a b) name init is = absurd cc
+bare_flop (Ram rank first ram) name init is = absurd cc
 
 reading_closed : (d : ℕ) (x : Node) → is_open (reading d x) ≡ false
 reading_closed d (Input p i) = refl
 reading_closed d (Flop name init old) = refl
 reading_closed d (Wire rank old) = refl
 reading_closed d (Gate g a b) = refl
+reading_closed d (Ram rank first ram) = refl
 
 -- a flip-flop that is fed by this net
 pub record IsFed (x : Node) (d : ℕ) : Type 0 where
@@ -82,6 +86,7 @@ reading_fed d (Flop name init None) unfed = record { name = name; init = init; i
 reading_fed d (Flop name init (Some old)) unfed = absurd unfed
 reading_fed d (Wire rank from) unfed = absurd unfed
 reading_fed d (Gate g a b) unfed = absurd unfed
+reading_fed d (Ram rank first ram) unfed = absurd unfed
 
 -- ---- the circuit
 
@@ -158,6 +163,7 @@ module _ {kinds : List Kind} {at : ObjectNets} {sources : List (List ℕ)} {old 
   within_last _ (seal.input k p i is) = seal.input k p i (j.connects.kept k (ap is_open is) ∙ is)
   within_last _ (seal.flop k name init d is) = let f = flop_last k name init d is in seal.flop k name init f.0 f.1
   within_last _ (seal.wire k r from is lt) = absurd (omega (arith, lt))
+  within_last _ (seal.ram k r first ram is lt) = absurd (omega (arith, lt))
   within_last _ (seal.zero k a b is) = seal.zero k a b (gate_last k gate.Zero a b is)
   within_last _ (seal.one k a b is) = seal.one k a b (gate_last k gate.One a b is)
   within_last _ (seal.negation k a b is x) = seal.negation k a b (gate_last k gate.Not a b is) (within_last a x)

@@ -15,7 +15,7 @@ use Rattle.hc_net.specs.Made.{IsGate}
 use Rattle.hc_net.specs.declared.net.FlopName.{FlopName}
 use Rattle.hc_net.specs.declared.net.FlopName.TheVariants.{Bit, Token}
 use Rattle.hc_net.specs.declared.node.Node.{Node}
-use Rattle.hc_net.specs.declared.node.Node.TheVariants.{Input, Flop, Wire, Gate}
+use Rattle.hc_net.specs.declared.node.Node.TheVariants.{Input, Flop, Wire, Gate, Ram}
 use Rattle.hc_token.specs.Control.{tokens_from}
 use Rattle.hc_build.specs.Objects.{output_wire, word_flops, words_flops, object_nodes, nodes_from}
 use Rattle.hc_build.specs.Sources.{bare}
@@ -30,6 +30,7 @@ flops_of-append (Input p i ∷ a) b = flops_of-append a b
 flops_of-append (Flop name init d ∷ a) b = ap (λ l. (name, init) ∷ l) (flops_of-append a b)
 flops_of-append (Wire rank from ∷ a) b = flops_of-append a b
 flops_of-append (Gate g x y ∷ a) b = flops_of-append a b
+flops_of-append (Ram rank first ram ∷ a) b = flops_of-append a b
 
 pub gates_of-append : (a b : List Node) → gates_of (a ++ b) ≡ gates_of a + gates_of b
 gates_of-append [] b = omega arith
@@ -37,6 +38,7 @@ gates_of-append (Input p i ∷ a) b = gates_of-append a b
 gates_of-append (Flop name init d ∷ a) b = gates_of-append a b
 gates_of-append (Wire rank from ∷ a) b = gates_of-append a b
 gates_of-append (Gate g x y ∷ a) b = let rest = gates_of-append a b in omega arith
+gates_of-append (Ram rank first ram ∷ a) b = gates_of-append a b
 
 -- what a flip-flop or a placeholder reads is no matter
 pub flops_of-bare : (nodes : List Node) → flops_of (map bare nodes) ≡ flops_of nodes
@@ -45,6 +47,7 @@ flops_of-bare (Input p i ∷ a) = flops_of-bare a
 flops_of-bare (Flop name init d ∷ a) = ap (λ l. (name, init) ∷ l) (flops_of-bare a)
 flops_of-bare (Wire rank from ∷ a) = flops_of-bare a
 flops_of-bare (Gate g x y ∷ a) = flops_of-bare a
+flops_of-bare (Ram rank first ram ∷ a) = flops_of-bare a
 
 pub gates_of-bare : (nodes : List Node) → gates_of (map bare nodes) ≡ gates_of nodes
 gates_of-bare [] = refl
@@ -52,6 +55,7 @@ gates_of-bare (Input p i ∷ a) = gates_of-bare a
 gates_of-bare (Flop name init d ∷ a) = gates_of-bare a
 gates_of-bare (Wire rank from ∷ a) = gates_of-bare a
 gates_of-bare (Gate g x y ∷ a) = ap (λ n. 1 + n) (gates_of-bare a)
+gates_of-bare (Ram rank first ram ∷ a) = gates_of-bare a
 
 -- gates alone
 pub flops_of-gates : (nodes : List Node) → All IsGate nodes → flops_of nodes ≡ []
@@ -60,6 +64,7 @@ flops_of-gates (Input p i ∷ a) only = absurd (All-head IsGate (Input p i) a on
 flops_of-gates (Flop name init d ∷ a) only = absurd (All-head IsGate (Flop name init d) a only)
 flops_of-gates (Wire rank from ∷ a) only = absurd (All-head IsGate (Wire rank from) a only)
 flops_of-gates (Gate g x y ∷ a) only = flops_of-gates a (All-tail IsGate (Gate g x y) a only)
+flops_of-gates (Ram rank first ram ∷ a) only = absurd (All-head IsGate (Ram rank first ram) a only)
 
 pub gates_of-most : (nodes : List Node) → gates_of nodes ≤ length nodes
 gates_of-most [] = omega arith
@@ -67,6 +72,7 @@ gates_of-most (Input p i ∷ a) = let rest = gates_of-most a in omega arith
 gates_of-most (Flop name init d ∷ a) = let rest = gates_of-most a in omega arith
 gates_of-most (Wire rank from ∷ a) = let rest = gates_of-most a in omega arith
 gates_of-most (Gate g x y ∷ a) = let rest = gates_of-most a in omega arith
+gates_of-most (Ram rank first ram ∷ a) = let rest = gates_of-most a in omega arith
 
 -- flip-flops alone
 unfed_count : (nodes : List Node) → All IsUnfed nodes → length (flops_of nodes) ≡ length nodes
@@ -76,6 +82,7 @@ unfed_count (Flop name init None ∷ a) only = ap suc (unfed_count a (All-tail I
 unfed_count (Flop name init (Some d) ∷ a) only = absurd (All-head IsUnfed (Flop name init (Some d)) a only)
 unfed_count (Wire rank from ∷ a) only = absurd (All-head IsUnfed (Wire rank from) a only)
 unfed_count (Gate g x y ∷ a) only = absurd (All-head IsUnfed (Gate g x y) a only)
+unfed_count (Ram rank first ram ∷ a) only = absurd (All-head IsUnfed (Ram rank first ram) a only)
 
 unfed_gates : (nodes : List Node) → All IsUnfed nodes → gates_of nodes ≡ 0
 unfed_gates [] only = refl
@@ -84,6 +91,7 @@ unfed_gates (Flop name init None ∷ a) only = unfed_gates a (All-tail IsUnfed (
 unfed_gates (Flop name init (Some d) ∷ a) only = absurd (All-head IsUnfed (Flop name init (Some d)) a only)
 unfed_gates (Wire rank from ∷ a) only = absurd (All-head IsUnfed (Wire rank from) a only)
 unfed_gates (Gate g x y ∷ a) only = absurd (All-head IsUnfed (Gate g x y) a only)
+unfed_gates (Ram rank first ram ∷ a) only = absurd (All-head IsUnfed (Ram rank first ram) a only)
 
 -- inputs and placeholders
 inputs_flops : (p : ℕ) (xs : List ℕ) → flops_of (map (λ i. Input p i) xs) ≡ []

@@ -1,8 +1,9 @@
 -- The netlist of a sealed circuit does what the core does, where its nets hold what a run of the core holds and shows.
-use Rattle.std.proofs.Common.{◌≡◌, ◌<◌, ◌≤◌, ℕ, suc, ◌+◌, ◌*◌, List, [], ◌∷◌, ◌++◌, length, map, Bool, false, Some, refl, sym, ap, ◌∙◌, subst, arith}
+use Rattle.std.proofs.Common.{◌≡◌, ◌<◌, ◌≤◌, ℕ, suc, ◌+◌, ◌*◌, List, [], ◌∷◌, ◌++◌, length, map, Bool, true, false, Option, Some, None, refl, sym, ap, ◌∙◌, subst, arith}
 use Rattle.std.specs.Prelude.{slice_get, slice_index, slice_index_or}
-use Rattle.std.specs.List.{range_with_len, flat_map}
+use Rattle.std.specs.List.{range_with_len, flat_map, sum_by}
 use Rattle.std.proofs.lemmas.List.{map-append, get_or-map, length-map}
+use Rattle.std.proofs.lemmas.List.Sums.{sum_by-cons}
 use Rattle.hc_core.specs.Read.{expression}
 use Rattle.hc_core.specs.Typed.{kinds_of, kind_width}
 use Rattle.hc_core.specs.declared.expr.Expr.{Expr}
@@ -10,7 +11,7 @@ use Rattle.hc_core.specs.declared.object.Core.{Core}
 use Rattle.hc_core.specs.declared.object.Kind.{Kind}
 use Rattle.hc_core.specs.declared.object.Kind.TheVariants as kind
 use Rattle.hc_core.specs.declared.object.Object.{Object}
-use Rattle.hc_meaning.specs.Clock.{register_cells, output_of}
+use Rattle.hc_meaning.specs.Clock.{register_cells, memory_words, output_of}
 use Rattle.hc_meaning.specs.Run.{Run, world_of}
 use Rattle.hc_meaning.specs.Value.{World, words, number_of}
 use Rattle.hc_net.specs.Bits.{bit, number}
@@ -27,12 +28,14 @@ use Rattle.hc_bits.specs.Elements.{element_nets}
 use Rattle.hc_value.specs.Objects.{nets_of}
 use Rattle.hc_value.specs.declared.objects.ObjectNets.{ObjectNets}
 use Rattle.hc_control.specs.Right.{net_count}
-use Rattle.hc_build.specs.Implements.{Implements, IsNetlistOf, shape_of}
+use Rattle.hc_build.specs.Built.{is_built_kind}
+use Rattle.hc_build.specs.Implements.{Implements, IsNetlistOf, shape_of, memory_in}
 use Rattle.hc_build.specs.Objects.{ports_by, ports_from}
 use Rattle.hc_control.specs.declared.uses.ObjectUses.{ObjectUses}
 use Rattle.hc_build.proofs.Stages.{Stages}
 use Rattle.hc_build.proofs.StructureNodes.{base_of, nets_are}
-use Rattle.hc_build.proofs.StructureSealed.{same_clock, same_placed_shapes, last_ports, few_flops, few_gates}
+use Rattle.hc_build.proofs.Program.{core_kinds}
+use Rattle.hc_build.proofs.StructureSealed.{same_clock, same_placed_shapes, last_ports, few_flops, few_gates, no_memories}
 use Rattle.hc_build.proofs.StructureRuns.{bit_flop}
 use Rattle.hc_build.proofs.StructureBits.{bit-number}
 
@@ -83,6 +86,31 @@ numbers_are world v place base (o ∷ objects) are =
     ap (λ b. number (map (λ n. v (place n)) (range_with_len b w))) (let e : base + net_count o.kind + base_of (kinds_of objects) k ≡ base + (net_count o.kind + base_of (kinds_of objects) k) = omega arith in e)
     ∙ are (suc k) w s pins value is))
 
+-- ---- memories, which no core of built forms has
+
+memory_words_none : (x : Kind) → is_built_kind x ≡ true → (memory_words (Some x) ≡ 0) × (memory_in x ≡ 0)
+memory_words_none (kind.Reg w s init) built = (refl, refl)
+memory_words_none (kind.Array w s n init) built = (refl, refl)
+memory_words_none (kind.Ram w s n init) built = absurd cc
+memory_words_none (kind.Rom w s n init) built = absurd cc
+memory_words_none (kind.Signal w s unset) built = absurd cc
+memory_words_none (kind.Chan w s queue) built = absurd cc
+memory_words_none (kind.Input w s pins) built = (refl, refl)
+memory_words_none (kind.Output w s pins value) built = (refl, refl)
+
+memory_words_built : (kinds : List Kind) → ((k : ℕ) (x : Kind) → slice_get kinds k ≡ Some x → is_built_kind x ≡ true) → (k : ℕ) → memory_words (slice_get kinds k) ≡ 0
+memory_words_built kinds built k = by (slice_get kinds k) refl where
+  by : (o : Option Kind) → slice_get kinds k ≡ o → memory_words o ≡ 0
+  by None at = refl
+  by (Some x) at = (memory_words_none x (built k x at)).0
+
+no_memory_kinds : (kinds : List Kind) → ((k : ℕ) (x : Kind) → slice_get kinds k ≡ Some x → is_built_kind x ≡ true) → sum_by memory_in kinds ≡ 0
+no_memory_kinds [] built = refl
+no_memory_kinds (x ∷ kinds) built =
+    let own = (memory_words_none x (built 0 x refl)).1 in
+    let rest = no_memory_kinds kinds (λ k y at. built (suc k) y at) in
+    sum_by-cons memory_in x kinds ∙ (let e : memory_in x + sum_by memory_in kinds ≡ 0 = omega arith in e)
+
 -- ---- the netlist
 
 module _ {core : Core} {at : ObjectNets} {uses : List ObjectUses} {sources : List (List ℕ)} {placed used read last : Circuit} (s : Stages core at uses sources placed used read last) (raw : RawNet) (seals : Seals last raw) where
@@ -118,6 +146,7 @@ module _ {core : Core} {at : ObjectNets} {uses : List ObjectUses} {sources : Lis
     };
     same = λ trace n run t le. record {
       bits = λ k e i inside low. holds_bit trace t k e i _ inside low ((follows trace n run).holds t le k e inside);
+      memories = λ k some. let none = memory_words_built (kinds_of core.objects) (core_kinds core s.buildable) k in absurd (omega (arith, some));
     };
     outputs = λ trace n run t within.
         let world : World = world_of (kinds_of core.objects) (trace t) (run.state t) (run.clock t within).settled.instant in
@@ -137,5 +166,6 @@ module _ {core : Core} {at : ObjectNets} {uses : List ObjectUses} {sources : Lis
   is_netlist follows = record {
     implements = implements follows;
     gates = let cells = seals.gates in let few = few_gates s in omega arith;
+    rams = seals.rams ∙ ap length (no_memories s) ∙ sym (no_memory_kinds (kinds_of core.objects) (core_kinds core s.buildable));
     flops = let many : length raw.flops ≡ length (flops_of last.nodes) = sym (length-map raw.flops (λ (f : Flop). (f.name, f.init))) ∙ ap length seals.flops in let few = few_flops s in omega arith;
   }

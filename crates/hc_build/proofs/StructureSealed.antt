@@ -1,9 +1,9 @@
 -- The circuit of a core that went through all stages can be sealed, has the core's ports, and few flip-flops and gates.
-use Rattle.std.proofs.Common.{◌≡◌, ◌≢◌, ◌<◌, ◌≤◌, ℕ, ◌+◌, ◌-◌, ◌*◌, ◌^◌, List, [], ◌∷◌, ◌++◌, length, map, Bool, true, Option, Some, None, refl, sym, ap, ◌∙◌, subst, arith, length-append}
+use Rattle.std.proofs.Common.{◌≡◌, ◌≢◌, ◌<◌, ◌≤◌, ℕ, suc, ◌+◌, ◌-◌, ◌*◌, ◌^◌, List, [], ◌∷◌, ◌++◌, length, map, Bool, true, false, Option, Some, None, refl, sym, ap, ◌∙◌, subst, arith, length-append}
 use Rattle.std.specs.Prelude.{slice_get, slice_index, slice_index_or, All}
 use Rattle.std.specs.List.{sum_by}
 use Rattle.std.proofs.lemmas.List.{append-nil}
-use Rattle.std.proofs.lemmas.List.Elements.{All-cons, All-append, All-weaker, All-from_get_or}
+use Rattle.std.proofs.lemmas.List.Elements.{All-nil, All-cons, All-append, All-weaker, All-from_get_or}
 use Rattle.std.proofs.lemmas.Option.{slice_get_within, get_or_from_slice_get}
 use Rattle.hc_core.specs.Read.{expression, statement}
 use Rattle.hc_core.specs.Typed.{kinds_of}
@@ -13,17 +13,18 @@ use Rattle.hc_core.specs.declared.expr.Expr.{Expr}
 use Rattle.hc_core.specs.declared.object.Core.{Core}
 use Rattle.hc_core.specs.declared.object.Kind.{Kind}
 use Rattle.hc_core.specs.declared.object.Kind.TheVariants as kind
-use Rattle.hc_net.specs.Circuit.{Circuit, node_at, flops_of, gates_of}
+use Rattle.hc_net.specs.Circuit.{Circuit, node_at, flops_of, gates_of, memories_of}
 use Rattle.hc_net.specs.Made.{Over, IsGate}
 use Rattle.hc_net.specs.MadeLemmas.{Over-within}
 use Rattle.hc_net.specs.Seal as seal
 use Rattle.hc_net.specs.Seal.{IsSealable, Within}
-use Rattle.hc_net.specs.Valid.{PortHasSizes, port_name}
+use Rattle.hc_net.specs.Valid.{PortHasSizes, RamHasSizes, port_name}
 use Rattle.hc_net.specs.declared.net.FlopName.{FlopName}
 use Rattle.hc_net.specs.declared.net.FlopName.TheVariants.{Token}
 use Rattle.hc_net.specs.declared.net.Port.{Port}
 use Rattle.hc_net.specs.declared.node.Node.{Node}
-use Rattle.hc_net.specs.declared.node.Node.TheVariants.{Input, Flop, Wire, Gate}
+use Rattle.hc_net.specs.declared.ram.RamCell.{RamCell}
+use Rattle.hc_net.specs.declared.node.Node.TheVariants.{Input, Flop, Wire, Gate, Ram}
 use Rattle.hc_token.specs.Control.{tokens_from}
 use Rattle.hc_value.specs.Objects.{nets_of}
 use Rattle.hc_value.specs.Reads.{reached, read_nets}
@@ -52,6 +53,7 @@ gate_done nodes (Input p i) is = absurd is
 gate_done nodes (Flop name init d) is = absurd is
 gate_done nodes (Wire rank from) is = absurd is
 gate_done nodes (Gate g a b) is = tt
+gate_done nodes (Ram rank first ram) is = absurd is
 
 -- ---- from the stages
 
@@ -173,6 +175,7 @@ any_rank : {nodes : List Node} {rank k : ℕ} → Within nodes 0 k → Within no
 any_rank (seal.input k p i is) = seal.input k p i is
 any_rank (seal.flop k name init d is) = seal.flop k name init d is
 any_rank (seal.wire k r from is low) = absurd (omega (arith, low))
+any_rank (seal.ram k r first ram is low) = absurd (omega (arith, low))
 any_rank (seal.zero k a b is) = seal.zero k a b is
 any_rank (seal.one k a b is) = seal.one k a b is
 any_rank (seal.negation k a b is x) = seal.negation k a b is (any_rank x)
@@ -198,6 +201,7 @@ done_driven nodes (Wire r (Some d)) is rank from same =
     let drivers : Some d ≡ from = cc in
     (d, sym drivers, subst (λ n. Within nodes n d) (sym is.0 ∙ ranks) is.1)
 done_driven nodes (Gate g a b) is rank from same = absurd cc
+done_driven nodes (Ram r first ram) is rank from same = absurd cc
 
 is_driven : {kinds : List Kind} {nodes : List Node} {sources : List (List ℕ)} (x : Node) → Finished kinds nodes sources x
     → ((k i w : ℕ) (sign : Bool) (pins : List (List ℕ)) (value : Expr) → slice_get kinds k ≡ Some (kind.Output w sign pins value) → i < w → Within nodes 0 (slice_index (slice_index_or sources k []) i))
@@ -209,6 +213,34 @@ is_driven {nodes = nodes} {sources = sources} _ (driven k i w s pins value is lo
     let ranks : 2 ^ 32 - 1 ≡ rank = cc in
     let drivers : Some net ≡ from = cc in
     (net, sym drivers, subst (λ n. Within nodes n net) ranks (any_rank (outputs k i w s pins value is low)))
+
+-- no node is part of a RAM
+abbrev is_ram : Node → Bool
+is_ram (Input p i) = false
+is_ram (Flop name init d) = false
+is_ram (Wire rank from) = false
+is_ram (Gate g a b) = false
+is_ram (Ram rank first ram) = true
+
+control_no_ram : (nodes : List Node) (x : Node) → IsControlNode nodes x → is_ram x ≡ false
+control_no_ram nodes (Input p i) is = refl
+control_no_ram nodes (Flop name init d) is = refl
+control_no_ram nodes (Wire rank from) is = refl
+control_no_ram nodes (Gate g a b) is = refl
+control_no_ram nodes (Ram rank first ram) is = absurd is
+
+no_ram : {kinds : List Kind} {nodes : List Node} {sources : List (List ℕ)} (x : Node) → Finished kinds nodes sources x → is_ram x ≡ false
+no_ram {nodes = nodes} x (done y is) = control_no_ram nodes x is
+no_ram _ (input p i) = refl
+no_ram _ (driven k i w s pins value is low) = refl
+
+none_of : (nodes : List Node) → ((n : ℕ) (x : Node) → slice_get nodes n ≡ Some x → is_ram x ≡ false) → memories_of nodes ≡ []
+none_of [] none = refl
+none_of (Input p i ∷ nodes) none = none_of nodes (λ n x is. none (suc n) x is)
+none_of (Flop name init d ∷ nodes) none = none_of nodes (λ n x is. none (suc n) x is)
+none_of (Wire rank from ∷ nodes) none = none_of nodes (λ n x is. none (suc n) x is)
+none_of (Gate g a b ∷ nodes) none = none_of nodes (λ n x is. none (suc n) x is)
+none_of (Ram rank first ram ∷ nodes) none = let wrong : true ≡ false = none 0 (Ram rank first ram) refl in absurd cc
 
 module _ {core : Core} {at : ObjectNets} {uses : List ObjectUses} {sources : List (List ℕ)} {placed used read last : Circuit} (s : Stages core at uses sources placed used read last) where
   -- what an output's source reaches
@@ -234,6 +266,10 @@ module _ {core : Core} {at : ObjectNets} {uses : List ObjectUses} {sources : Lis
       subst (λ (y : Node). Finished (kinds_of core.objects) last.nodes sources y) (get_or_from_slice_get last.nodes n x (Wire 0 None) is)
       (finished (joined s) n (slice_get_within last.nodes n x is))
 
+  -- It has no RAM.
+  pub no_memories : memories_of last.nodes ≡ []
+  no_memories = none_of last.nodes (λ n x is. no_ram x (node_finished n x is))
+
   -- The circuit can be sealed.
   pub sealable : IsSealable last
   sealable = record {
@@ -244,5 +280,7 @@ module _ {core : Core} {at : ObjectNets} {uses : List ObjectUses} {sources : Lis
         (subst (λ (l : List (FlopName × Bool)). slice_get l i ≡ Some f) (last_flops s) at_i)
         (subst (λ (l : List (FlopName × Bool)). slice_get l j ≡ Some g) (last_flops s) at_j);
     port_names = names_differ last.ports _ (ap (map port_name) (last_ports s) ∙ names_are 0 core.objects) s.buildable.sound.names_differ;
+    ram_names = λ i j r t lower at_i at_j. let none : slice_get [] i ≡ Some r = subst (λ (l : List RamCell). slice_get l i ≡ Some r) no_memories at_i in absurd cc;
+    ram_sizes = subst (All RamHasSizes) (sym no_memories) (All-nil RamHasSizes);
     sizes = subst (λ (l : List Port). All PortHasSizes l) (sym (last_ports s)) (sizes_are (kinds_of core.objects) 0 core.objects s.buildable.sound.kinds);
   }

@@ -19,7 +19,7 @@ use Rattle.hc_net.specs.Seal as seal
 use Rattle.hc_net.specs.Seal.{Within}
 use Rattle.hc_net.specs.declared.gate.GateKind.TheVariants as gate
 use Rattle.hc_net.specs.declared.node.Node.{Node}
-use Rattle.hc_net.specs.declared.node.Node.TheVariants.{Input, Flop, Wire, Gate}
+use Rattle.hc_net.specs.declared.node.Node.TheVariants.{Input, Flop, Wire, Gate, Ram}
 use Rattle.hc_rules.specs.Weight.{most_weight}
 use Rattle.hc_value.specs.Objects.{nets_of, AreNets}
 use Rattle.hc_value.specs.declared.objects.ObjectNets.{ObjectNets}
@@ -147,6 +147,7 @@ unfed_within nodes k (Flop name init None) is unfed = seal.flop k name init None
 unfed_within nodes k (Flop name init (Some d)) is unfed = absurd unfed
 unfed_within nodes k (Wire rank from) is unfed = absurd unfed
 unfed_within nodes k (Gate g a b) is unfed = absurd unfed
+unfed_within nodes k (Ram rank first ram) is unfed = absurd unfed
 
 -- the nets of a register or an array are those of flip-flops
 holder_low : (core : Core) (placed : Circuit) (at : ObjectNets) → Places core placed at → (k w : ℕ) (x : Kind) (numbers : List ℕ) → slice_get (kinds_of core.objects) k ≡ Some x

@@ -8,7 +8,7 @@ use Rattle.hc_core.specs.declared.object.Kind.TheVariants as kind
 use Rattle.hc_net.specs.Circuit.{Circuit, node_at, reading, Extends}
 use Rattle.hc_net.specs.Made.{Adds, Always, Over}
 use Rattle.hc_net.specs.declared.node.Node.{Node}
-use Rattle.hc_net.specs.declared.node.Node.TheVariants.{Input, Flop, Wire, Gate}
+use Rattle.hc_net.specs.declared.node.Node.TheVariants.{Input, Flop, Wire, Gate, Ram}
 use Rattle.hc_store.specs.Takes.{Takes}
 use Rattle.hc_store.specs.Arrays.{TakesEach}
 use Rattle.hc_value.specs.Objects.{nets_of, AreNets}
@@ -82,6 +82,7 @@ is_open (Flop name init (Some d)) = false
 is_open (Wire rank None) = true
 is_open (Wire rank (Some d)) = false
 is_open (Gate g a b) = false
+is_open (Ram rank first ram) = false
 
 -- whether the nets of an object are placeholders
 abbrev pub is_placeholder : Kind → Bool
@@ -100,6 +101,7 @@ bare (Input p i) = Input p i
 bare (Flop name init d) = Flop name init None
 bare (Wire rank from) = Wire rank None
 bare (Gate g a b) = Gate g a b
+bare (Ram rank first ram) = Ram rank first ram
 
 -- What it takes that nets of a list read those of another: there are enough of them, they differ, and all are there.
 pub record CanRead (nets from : List ℕ) (c : Circuit) : Type 0 where

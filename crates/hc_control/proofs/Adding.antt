@@ -21,7 +21,7 @@ use Rattle.hc_net.specs.Seal.{Within}
 use Rattle.hc_net.specs.declared.net.FlopName.{FlopName}
 use Rattle.hc_net.specs.declared.net.FlopName.TheVariants.{Token}
 use Rattle.hc_net.specs.declared.node.Node.{Node}
-use Rattle.hc_net.specs.declared.node.Node.TheVariants.{Input, Flop, Wire, Gate}
+use Rattle.hc_net.specs.declared.node.Node.TheVariants.{Input, Flop, Wire, Gate, Ram}
 use Rattle.hc_net.specs.declared.gate.GateKind.{GateKind}
 use Rattle.hc_net.specs.declared.gate.GateKind.TheVariants as kind
 use Rattle.hc_token.specs.Control as tokens
@@ -55,6 +55,7 @@ within_stays : {old new : List Node} {k : ℕ} → Stays old new → Within old 
 within_stays s (seal.input k p i is) = seal.input k p i (s.input k p i is)
 within_stays s (seal.flop k name init d is) = seal.flop k name init d (s.flop k name init d is)
 within_stays s (seal.wire k r from is lt) = absurd (omega (arith, lt))
+within_stays s (seal.ram k r first ram is lt) = absurd (omega (arith, lt))
 within_stays s (seal.zero k a b is) = seal.zero k a b (s.gate k _ a b is)
 within_stays s (seal.one k a b is) = seal.one k a b (s.gate k _ a b is)
 within_stays s (seal.negation k a b is x) = seal.negation k a b (s.gate k _ a b is) (within_stays s x)
@@ -76,6 +77,7 @@ constant_stays s k (Input p i) b is at = absurd cc
 constant_stays s k (Flop name init d) b is at = absurd cc
 constant_stays s k (Wire rank from) b is at = absurd cc
 constant_stays s k (Gate g x y) b is at = ap constant_at (s.gate k g x y is) ∙ at
+constant_stays s k (Ram rank first ram) b is at = absurd cc
 
 keeps_stays : {old new : List Node} → Stays old new → length old ≤ length new → Extends old new → Keeps old new
 keeps_stays {old} s longer earlier = record {
@@ -183,6 +185,7 @@ node_kept keeps (Flop name init (Some d)) is = tt
 node_kept keeps (Wire rank None) is = absurd is
 node_kept keeps (Wire rank (Some d)) is = (is.0, keeps.within d is.1)
 node_kept keeps (Gate g a b) is = tt
+node_kept keeps (Ram rank first ram) is = absurd is
 
 pub reads_kept : {kinds : List Kind} {at : ObjectNets} {old new : Circuit} → Keeps old.nodes new.nodes → CanRead kinds at old → CanRead kinds at new
 reads_kept {kinds} {at} {old} {new} keeps reads = record {
@@ -220,6 +223,7 @@ flop_within nodes k (Input p i) is flop = absurd flop
 flop_within nodes k (Flop name init d) is flop = seal.flop k name init d is
 flop_within nodes k (Wire rank from) is flop = absurd flop
 flop_within nodes k (Gate g a b) is flop = absurd flop
+flop_within nodes k (Ram rank first ram) is flop = absurd flop
 
 -- a net that reaches such nets and flip-flops alone
 pub reaches_within : {nodes : List Node} {args : List ℕ} {net : ℕ} → All (Within nodes 0) args → Reaches nodes args net → Within nodes 0 net
@@ -237,6 +241,7 @@ constant_within nodes k (Gate kind.Not x y) b is at = absurd cc
 constant_within nodes k (Gate kind.And x y) b is at = absurd cc
 constant_within nodes k (Gate kind.Or x y) b is at = absurd cc
 constant_within nodes k (Gate kind.Xor x y) b is at = absurd cc
+constant_within nodes k (Ram rank first ram) b is at = absurd cc
 
 pub never_within : {nodes : List Node} (k : ℕ) → IsNever nodes k → Within nodes 0 k
 never_within {nodes} k is = constant_within nodes k (node_at nodes k) false refl is
@@ -254,6 +259,7 @@ constant_does trace h k (Gate kind.Not x y) b is does t = absurd cc
 constant_does trace h k (Gate kind.And x y) b is does t = absurd cc
 constant_does trace h k (Gate kind.Or x y) b is does t = absurd cc
 constant_does trace h k (Gate kind.Xor x y) b is does t = absurd cc
+constant_does trace h k (Ram rank first ram) b is does t = absurd cc
 
 -- a constant's net holds it in every clock
 pub never_holds : {nodes : List Node} (k : ℕ) → IsNever nodes k → (trace : Trace) (h : History) → Explains nodes trace h → (t : ℕ) → h t k ≡ false
@@ -270,6 +276,7 @@ gates_append (Input p i ∷ xs) ys = gates_append xs ys
 gates_append (Flop name init d ∷ xs) ys = gates_append xs ys
 gates_append (Wire rank from ∷ xs) ys = gates_append xs ys
 gates_append (Gate g a b ∷ xs) ys = omega (arith, gates_append xs ys)
+gates_append (Ram rank first ram ∷ xs) ys = gates_append xs ys
 
 pub flops_append : (xs ys : List Node) → flops_of (xs ++ ys) ≡ flops_of xs ++ flops_of ys
 flops_append [] ys = refl
@@ -277,6 +284,7 @@ flops_append (Input p i ∷ xs) ys = flops_append xs ys
 flops_append (Flop name init d ∷ xs) ys = ap (λ l. (name, init) ∷ l) (flops_append xs ys)
 flops_append (Wire rank from ∷ xs) ys = flops_append xs ys
 flops_append (Gate g a b ∷ xs) ys = flops_append xs ys
+flops_append (Ram rank first ram ∷ xs) ys = flops_append xs ys
 
 -- gates and flip-flops are all that there is
 part_size : (nodes : List Node) → All IsPart nodes → length nodes ≡ gates_of nodes + length (flops_of nodes)
@@ -285,6 +293,7 @@ part_size (Input p i ∷ nodes) all = absurd (All-head IsPart (Input p i) nodes 
 part_size (Flop name init d ∷ nodes) all = omega (arith, part_size nodes (All-tail IsPart (Flop name init d) nodes all))
 part_size (Wire rank from ∷ nodes) all = absurd (All-head IsPart (Wire rank from) nodes all)
 part_size (Gate k a b ∷ nodes) all = omega (arith, part_size nodes (All-tail IsPart (Gate k a b) nodes all))
+part_size (Ram rank first ram ∷ nodes) all = absurd (All-head IsPart (Ram rank first ram) nodes all)
 
 pub tokens_size : (token count : ℕ) → length (tokens_from token count) ≡ count
 tokens_size token count = length-map-range_with_len (λ i. (Token (token + i), false)) 0 count
@@ -352,6 +361,7 @@ gate_control nodes (Input p i) g = absurd g
 gate_control nodes (Flop name init d) g = absurd g
 gate_control nodes (Wire rank from) g = absurd g
 gate_control nodes (Gate k a b) g = tt
+gate_control nodes (Ram rank first ram) g = absurd g
 
 -- gates are control without tokens
 pub control_gates : {most : ℕ} {old new : Circuit} (token : ℕ) → Adds most old new → AddsControl most token 0 old new
@@ -372,6 +382,7 @@ part_control nodes (Flop name init None) is = absurd is
 part_control nodes (Flop name init (Some d)) is = tt
 part_control nodes (Wire rank from) is = absurd is
 part_control nodes (Gate k a b) is = tt
+part_control nodes (Ram rank first ram) is = absurd is
 
 -- gates and tokens
 pub control_tokens : {most token count : ℕ} {old new : Circuit} → tokens.AddsControl most token count old new → AddsControl most token count old new

@@ -14,7 +14,7 @@ use Rattle.hc_net.specs.Circuit.{Circuit, Explains, flops_of, gates_of}
 use Rattle.hc_net.specs.Run.{Trace}
 use Rattle.hc_net.specs.Seal.{Within}
 use Rattle.hc_net.specs.declared.node.Node.{Node}
-use Rattle.hc_net.specs.declared.node.Node.TheVariants.{Input, Flop, Wire, Gate}
+use Rattle.hc_net.specs.declared.node.Node.TheVariants.{Input, Flop, Wire, Gate, Ram}
 use Rattle.hc_token.specs.Control.{IsNever, tokens_from}
 use Rattle.hc_token.specs.declared.ends.Ends.{Ends}
 use Rattle.hc_value.specs.declared.objects.ObjectNets.{ObjectNets}
@@ -33,6 +33,7 @@ IsControlNode nodes (Flop name init (Some d)) = Unit {0}
 IsControlNode nodes (Wire rank None) = ⊥
 IsControlNode nodes (Wire rank (Some d)) = (rank ≡ 0) × Within nodes 0 d
 IsControlNode nodes (Gate g a b) = Unit {0}
+IsControlNode nodes (Ram rank first ram) = ⊥
 
 -- Control was added: at most so many gates and placeholders, and so many tokens from this number on.
 pub record AddsControl (most token count : ℕ) (old new : Circuit) : Type 0 where

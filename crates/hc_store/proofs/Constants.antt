@@ -9,7 +9,7 @@ use Rattle.hc_net.specs.Run.{Trace}
 use Rattle.hc_net.specs.Circuit.{Circuit, History, Explains, Does, node_at, constant_at}
 use Rattle.hc_net.specs.Made.{Adds}
 use Rattle.hc_net.specs.declared.node.Node.{Node}
-use Rattle.hc_net.specs.declared.node.Node.TheVariants.{Input, Flop, Wire, Gate}
+use Rattle.hc_net.specs.declared.node.Node.TheVariants.{Input, Flop, Wire, Gate, Ram}
 use Rattle.hc_net.specs.declared.gate.GateKind.TheVariants as kind
 use Rattle.hc_store.specs.Arrays.{with_low, constant_number}
 
@@ -37,6 +37,7 @@ does_constant trace h k (Gate kind.Not x y) b does is t = absurd cc
 does_constant trace h k (Gate kind.And x y) b does is t = absurd cc
 does_constant trace h k (Gate kind.Or x y) b does is t = absurd cc
 does_constant trace h k (Gate kind.Xor x y) b does is t = absurd cc
+does_constant trace h k (Ram rank first ram) b does is t = absurd cc
 
 record LowAndHigh (low : Option Bool) (high : Option ℕ) (n : ℕ) : Type 0 where
   pub bit : Bool

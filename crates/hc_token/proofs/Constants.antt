@@ -10,7 +10,7 @@ use Rattle.hc_net.specs.Made.{Over, Adds, Always, Makes}
 use Rattle.hc_net.specs.MadeLemmas.{Adds-none, Adds-most, Adds-always}
 use Rattle.hc_net.specs.declared.nets.NoMemory.{NoMemory}
 use Rattle.hc_net.specs.declared.node.Node.{Node}
-use Rattle.hc_net.specs.declared.node.Node.TheVariants.{Input, Flop, Wire, Gate}
+use Rattle.hc_net.specs.declared.node.Node.TheVariants.{Input, Flop, Wire, Gate, Ram}
 use Rattle.hc_net.specs.declared.gate.GateKind.TheVariants as kind
 use Rattle.hc_token.proofs.Parts.{All-one}
 
@@ -38,6 +38,7 @@ constant_does trace h k (Gate kind.Not x y) b is does t = absurd cc
 constant_does trace h k (Gate kind.And x y) b is does t = absurd cc
 constant_does trace h k (Gate kind.Or x y) b is does t = absurd cc
 constant_does trace h k (Gate kind.Xor x y) b is does t = absurd cc
+constant_does trace h k (Ram rank first ram) b is does t = absurd cc
 
 -- a net whose gate gives this constant holds it in every clock
 pub constant_holds : (c : Circuit) (k : ℕ) (b value : Bool) → Some b ≡ constant_at (node_at c.nodes k) → b ≡ value → Always c.nodes (λ v. v k ≡ value)

@@ -10,7 +10,7 @@ use Rattle.hc_net.specs.Made as made
 use Rattle.hc_net.specs.declared.net.FlopName.{FlopName}
 use Rattle.hc_net.specs.declared.net.FlopName.TheVariants.{Token}
 use Rattle.hc_net.specs.declared.node.Node.{Node}
-use Rattle.hc_net.specs.declared.node.Node.TheVariants.{Input, Flop, Wire, Gate}
+use Rattle.hc_net.specs.declared.node.Node.TheVariants.{Input, Flop, Wire, Gate, Ram}
 use Rattle.hc_net.specs.declared.gate.GateKind.TheVariants as kind
 use Rattle.hc_token.specs.Control.{IsPart, IsFlop, AddsControl, Controls, tokens_from}
 use Rattle.hc_token.specs.Circuits.{Acts, Follows, Branches, Repeats}
@@ -24,6 +24,7 @@ is_part (Input p i) g = absurd g
 is_part (Flop name init d) g = absurd g
 is_part (Wire rank from) g = absurd g
 is_part (Gate k a b) g = tt
+is_part (Ram rank first ram) g = absurd g
 
 pub few_gates : (nodes : List Node) → gates_of nodes ≤ length nodes
 few_gates [] = omega arith
@@ -31,6 +32,7 @@ few_gates (Input p i ∷ nodes) = omega (arith, few_gates nodes)
 few_gates (Flop name init d ∷ nodes) = omega (arith, few_gates nodes)
 few_gates (Wire rank from ∷ nodes) = omega (arith, few_gates nodes)
 few_gates (Gate k a b ∷ nodes) = omega (arith, few_gates nodes)
+few_gates (Ram rank first ram ∷ nodes) = omega (arith, few_gates nodes)
 
 pub no_flops : (gates : List Node) → All IsGate gates → flops_of gates ≡ []
 no_flops [] all = refl
@@ -38,6 +40,7 @@ no_flops (Input p i ∷ gates) all = absurd (All-head IsGate (Input p i) gates a
 no_flops (Flop name init d ∷ gates) all = absurd (All-head IsGate (Flop name init d) gates all)
 no_flops (Wire rank from ∷ gates) all = absurd (All-head IsGate (Wire rank from) gates all)
 no_flops (Gate k a b ∷ gates) all = no_flops gates (All-tail IsGate (Gate k a b) gates all)
+no_flops (Ram rank first ram ∷ gates) all = absurd (All-head IsGate (Ram rank first ram) gates all)
 
 pub AddsControl-gates : {most : ℕ} {old new : Circuit} (token : ℕ) → Adds most old new → AddsControl most token 0 old new
 AddsControl-gates token a = record {

@@ -15,7 +15,7 @@ use Rattle.hc_net.specs.Made.{Over, IsGate, Makes}
 use Rattle.hc_net.specs.MadeLemmas.{Over-kept, Over-over, Over-left, Over-self, Adds-longer, Adds-room, Makes-gate, Makes-then, Makes-holds, all_there}
 use Rattle.hc_net.specs.declared.net.FlopName.TheVariants.{Token}
 use Rattle.hc_net.specs.declared.node.Node.{Node}
-use Rattle.hc_net.specs.declared.node.Node.TheVariants.{Input, Flop, Wire, Gate}
+use Rattle.hc_net.specs.declared.node.Node.TheVariants.{Input, Flop, Wire, Gate, Ram}
 use Rattle.hc_net.specs.declared.gate.GateKind.{GateKind}
 use Rattle.hc_net.specs.declared.gate.GateKind.TheVariants as kind
 use Rattle.hc_token.specs.Control.{IsPart, IsFlop, AddsControl, Controls, AreThere, IsNever, tokens_from}
@@ -37,6 +37,7 @@ flops_of-append (Input p i ∷ xs) ys = flops_of-append xs ys
 flops_of-append (Flop name init d ∷ xs) ys = ap (λ l. (name, init) ∷ l) (flops_of-append xs ys)
 flops_of-append (Wire rank from ∷ xs) ys = flops_of-append xs ys
 flops_of-append (Gate g a b ∷ xs) ys = flops_of-append xs ys
+flops_of-append (Ram rank first ram ∷ xs) ys = flops_of-append xs ys
 
 pub gates_of-append : (xs ys : List Node) → gates_of (xs ++ ys) ≡ gates_of xs + gates_of ys
 gates_of-append [] ys = omega arith
@@ -44,6 +45,7 @@ gates_of-append (Input p i ∷ xs) ys = gates_of-append xs ys
 gates_of-append (Flop name init d ∷ xs) ys = gates_of-append xs ys
 gates_of-append (Wire rank from ∷ xs) ys = gates_of-append xs ys
 gates_of-append (Gate g a b ∷ xs) ys = omega (arith, gates_of-append xs ys)
+gates_of-append (Ram rank first ram ∷ xs) ys = gates_of-append xs ys
 
 -- latches that are fed
 latches_are_parts : (token : ℕ) (sources is : List ℕ) → All IsPart (map (fed_latch token sources) is)

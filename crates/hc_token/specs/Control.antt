@@ -7,7 +7,7 @@ use Rattle.hc_net.specs.Made.{Over}
 use Rattle.hc_net.specs.declared.net.FlopName.{FlopName}
 use Rattle.hc_net.specs.declared.net.FlopName.TheVariants.{Token}
 use Rattle.hc_net.specs.declared.node.Node.{Node}
-use Rattle.hc_net.specs.declared.node.Node.TheVariants.{Input, Flop, Wire, Gate}
+use Rattle.hc_net.specs.declared.node.Node.TheVariants.{Input, Flop, Wire, Gate, Ram}
 use Rattle.hc_token.specs.declared.ends.Ends.{Ends}
 
 -- a gate, or a flip-flop that is fed
@@ -17,12 +17,14 @@ IsPart (Flop name init None) = ⊥
 IsPart (Flop name init (Some d)) = Unit {0}
 IsPart (Wire rank from) = ⊥
 IsPart (Gate g a b) = Unit {0}
+IsPart (Ram rank first ram) = ⊥
 
 abbrev pub IsFlop : Node → Type 0
 IsFlop (Input p i) = ⊥
 IsFlop (Flop name init d) = Unit {0}
 IsFlop (Wire rank from) = ⊥
 IsFlop (Gate g a b) = ⊥
+IsFlop (Ram rank first ram) = ⊥
 
 -- the flip-flops of so many tokens from this number on, each 0 at edge 0
 abbrev pub tokens_from : (token count : ℕ) → List (FlopName × Bool)

@@ -1,4 +1,5 @@
 pub mod Control
+pub mod Part
 pub mod Circuits
 pub mod Latches
 pub mod Waits
