@@ -1,3 +1,4 @@
 pub mod Sealed
 pub mod Counter
+pub mod Memory
 pub mod Sum

@@ -1,1 +1,4 @@
 pub mod Passes
+pub mod Walk
+pub mod Words
+pub mod Found

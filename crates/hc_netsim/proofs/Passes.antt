@@ -1,22 +1,19 @@
 -- What the parts of a pass keep, one step at a time.
-use Rattle.std.proofs.Common.{◌≡◌, ◌<◌, ◌≤◌, ℕ, zero, suc, ◌+◌, ◌*◌, ◌/◌, ◌%◌, ◌^◌, List, [], ◌∷◌, ◌++◌, length, drop, take, set, get_or, eqb, Bool, true, false, Some, refl, ap, ap₂, sym, ◌∙◌, inl, inr, arith, add-one, length-append, length-drop, append_assoc}
-use Rattle.std.specs.Prelude.{map, slice_index, ◌≢◌, slice_get}
+use Rattle.std.proofs.Common.{◌≡◌, ◌<◌, ◌≤◌, ℕ, zero, suc, ◌+◌, ◌*◌, ◌/◌, ◌%◌, ◌^◌, List, [], ◌∷◌, ◌++◌, length, drop, take, set, get_or, eqb, Bool, true, false, Some, refl, ap, ap₂, sym, ◌∙◌, arith, add-one, length-append, length-drop, append_assoc}
+use Rattle.std.specs.Prelude.{map, slice_index}
 use Rattle.std.specs.List.{range_with_len}
 use Rattle.std.proofs.lemmas.List.{drop_more, length-map, map-append, take_more_set, length-take-le}
-use Rattle.std.proofs.lemmas.Bool.{cases_lt}
 use Rattle.std.proofs.lemmas.List.FromFn.{length-map-range_with_len, map-range_with_len_more}
 use Rattle.std.proofs.Math.Nat.{pow-suc, div-div-eq-div-mul}
 use Rattle.std.proofs.Math.Pow.{pow_mono}
 use mir.Val.{bool_byte}
 use Rattle.hc_stim.specs.Bench.{state_after, next_from}
 use Rattle.hc_net.specs.Bits.{bit, number}
-use Rattle.hc_net.specs.Run.{Trace, state_at, input_bits_from}
+use Rattle.hc_net.specs.Run.{Trace, first_state, state_at, input_bits_from}
 use Rattle.hc_net.specs.declared.net.Port.{Port}
 use Rattle.hc_net.specs.declared.net.Port.TheVariants.{Input, Output}
-use Rattle.hc_net.specs.declared.net.Flop.{Flop}
-use Rattle.hc_net.specs.declared.net.FlopName.{FlopName}
 use Rattle.hc_net.specs.declared.net.RawNet.{RawNet}
-use Rattle.hc_netsim.specs.Running.{first_state, step}
+use Rattle.hc_netsim.specs.Running.{step}
 use Rattle.hc_netsim.specs.Pass.{bits_of, input_bit}
 
 -- the state after clocks is that of the netlist at the edge
@@ -54,6 +51,13 @@ number_below [] = omega arith
 number_below (true ∷ bits) = let h = number_below bits in rw (pow-suc 2 (length bits)) (omega arith)
 number_below (false ∷ bits) = let h = number_below bits in rw (pow-suc 2 (length bits)) (omega arith)
 
+pub bits_fit : (bits : List Bool) (k n : ℕ) → 0 < k → length bits ≤ 128 → n ≡ number (drop k bits) → 2 * n + 1 < 2 ^ 128
+bits_fit bits k n some width is =
+    let below = number_below (drop k bits) in
+    let size : length (drop k bits) ≤ 127 = omega (arith, length-drop k bits) in
+    let top = pow_mono {i = length (drop k bits)} {j = 127} size in
+    omega arith
+
 pub number_fits : (v : ℕ → Bool) (nets : List ℕ) (k n : ℕ) → 0 < k → length nets ≤ 128 → n ≡ number (map v (drop k nets)) → 2 * n + 1 < 2 ^ 128
 number_fits v nets k n some width is =
     let below = number_below (map v (drop k nets)) in
@@ -71,13 +75,6 @@ bits_more n i rest bits within is same =
     take_more_set bits i (eqb (rest % 2) 1) within
     ∙ ap₂ (λ bs b. bs ++ b ∷ []) same (ap (λ m. eqb (m % 2) 1) is)
     ∙ sym (map-range_with_len_more (bit n) 0 i i (omega arith))
-
--- no flip-flop before this one has the name, and this one doesn't
-pub none_more : (flops : List Flop) (name : FlopName) (k : ℕ) (f : Flop) → ((j : ℕ) (g : Flop) → j < k → slice_get flops j ≡ Some g → g.name ≢ name) → slice_get flops k ≡ Some f → f.name ≢ name → (j : ℕ) (g : Flop) → j < k + 1 → slice_get flops j ≡ Some g → g.name ≢ name
-none_more flops name k f before at differs j g within there = elim (cases_lt j k) [
-  | inl low ↦ before j g low there
-  | inr high ↦ λ same. let here : j ≡ k = omega arith in differs (let e = ap (slice_get flops) here in cc)
-]
 
 -- the size of a part of a list
 pub part_size : {X : Type 0} (xs : List X) (from width n : ℕ) → n ≡ width → from + width ≤ length xs → length (take n (drop from xs)) ≡ width

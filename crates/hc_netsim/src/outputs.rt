@@ -1,9 +1,12 @@
 ghost use Rattle.std.specs.Prelude.{◌≡◌, ◌<◌, ◌≤◌, length, map, All};
-ghost use Rattle.hc_net.specs.Bits.{number};
 ghost use Rattle.hc_net.specs.Run.{net_bit, output_numbers};
 ghost use Rattle.hc_net.specs.Valid.{PortHasSizes, PortReadsBelow};
+ghost use Rattle.hc_netsim.specs.Held.{after_edge};
+ghost use Rattle.hc_netsim.specs.Pass.{RamReadsWithin};
 ghost use Rattle.hc_netsim.specs.Running.{output_count};
 
+use crate::memory::Memory;
+use crate::numbers::number_on;
 use hc_net::{Flop, Port};
 
 /// Writes the number of each output.
@@ -29,19 +32,6 @@ pub(crate) fn put_outputs(ports: &[Port], values: &[bool], outputs: &mut [u128])
     }
 }
 
-/// The number on these nets, the lowest bit first.
-fn number_on(nets: &[u32], values: &[bool]) -> u128
-    requires width { length nets.now ≤ 128 }
-    requires nets { All (λ k. k < length values.now) nets.now }
-    ensures { result ≡ number (map (net_bit values.now) nets.now) }
-{
-    let mut number = 0;
-    for k in (0..nets.len()).rev() {
-        number = 2 * number + u128::from(values[nets[k] as usize]);
-    }
-    number
-}
-
 /// Writes the bit that each flip-flop takes at the edge.
 pub(crate) fn put_next(flops: &[Flop], values: &[bool], state: &mut [bool])
     requires fed { All (λ f. f.d < length values.now) flops.now }
@@ -50,5 +40,15 @@ pub(crate) fn put_next(flops: &[Flop], values: &[bool], state: &mut [bool])
 {
     for (k, flop) in flops.iter().enumerate() {
         state[k] = values[flop.d as usize];
+    }
+}
+
+/// Writes the word that each RAM takes at the edge.
+pub(crate) fn put_words(memories: &mut [Memory], values: &[bool])
+    requires { All (RamReadsWithin (length values.now)) (map (λ m. m.ram) memories.old) }
+    ensures { memories.new ≡ map (after_edge (net_bit values.now)) memories.old }
+{
+    for k in 0..memories.len() {
+        memories[k].write(values);
     }
 }

@@ -1,7 +1,7 @@
 use Rattle.std.proofs.Common.{arith}
 use Rattle.hc_net.specs.Run.{net_bit}
 use Rattle.hc_netsim.proofs.Passes.{number_fits, one_bit}
-use Rattle.hc_netsim.proofs.outputs.number_on.Goals as goal
+use Rattle.hc_netsim.proofs.numbers.number_on.Goals as goal
 
 pub overflow_mul-number : goal.overflow_mul-number
 overflow_mul-number c =

@@ -2,7 +2,7 @@ use Rattle.std.proofs.Common.{◌≡◌, drop}
 use Rattle.std.specs.Prelude.{map}
 use Rattle.hc_net.specs.Bits.{number}
 use Rattle.hc_net.specs.Run.{net_bit}
-use Rattle.hc_netsim.proofs.outputs.number_on.Given as goal
+use Rattle.hc_netsim.proofs.numbers.number_on.Given as goal
 
 abbrev pub invariant-loop-k : goal.invariant-loop-k
 invariant-loop-k l = l.number ≡ number (map (net_bit l.values) (drop l.k l.nets))
