@@ -15,6 +15,7 @@ use Rattle.hc_core.specs.declared.object.Core.{Core}
 use Rattle.hc_net.specs.declared.net.RawNet.{RawNet}
 use Rattle.hc_run.specs.declared.due.Due.{Due}
 use Rattle.hc_run.specs.declared.due.Due.TheVariants.{Built, Checked, Refused, Usage, ReadFault, Longer}
+use Rattle.hc_net.specs.Run.{gate_count}
 use Rattle.hc_net.specs.Valid.{IsValid}
 use Rattle.hc_build.specs.Implements.{IsNetlistOf}
 use Rattle.hc_run.specs.Lines.{built_line, checked_line}
@@ -148,12 +149,14 @@ compiles words file name bytes core raw x job source within accepted netlist val
 -- a netlist that was saved after a load, as an end of the job
 saves-loaded : (words : List (List ℕ)) (name : List ℕ) (raw : RawNet) (x y z : StoreState) (result : Result Due WriteErr) → Compiles words x name raw
     → SameFiles x y → MovesReads x y → Saves raw name y z result → Performs words x z result
-saves-loaded words name raw x y z (Ok (Built gates flops)) known files counts h = inl (record {
+saves-loaded words name raw x y z (Ok (Built gates flops rams)) known files counts h = inl (record {
   name = name;
   raw = raw;
   compiles = known;
-  saves = Saved-loaded files h.2;
-  says = ap (λ n. built_line n flops) h.0 ∙ ap (built_line (length raw.cells)) h.1;
+  saves = Saved-loaded files h.3;
+  says =
+      ap (λ n. built_line n flops rams) h.0 ∙ ap (λ n. built_line (gate_count raw.cells) n rams) h.1
+      ∙ ap (built_line (gate_count raw.cells) (length raw.flops)) h.2;
 })
 saves-loaded words name raw x y z (Ok (Checked objects weight flops)) known files counts h = absurd h
 saves-loaded words name raw x y z (Ok (Refused refusal)) known files counts h = absurd h
@@ -211,7 +214,7 @@ Performs-longer words file x y job longer files counts = record { file = file; j
 -- A source that was loaded and checked, as an end of the job.
 pub Performs-checked : (words : List (List ℕ)) (file bytes : List ℕ) (x y : StoreState) (result : Result Due WriteErr) → IsCheck words file
     → IsFile x.disk file bytes → length bytes ≤ source_limit → SameFiles x y → MovesReads x y → ChecksSource bytes result → Performs words x y result
-Performs-checked words file bytes x y (Ok (Built gates flops)) job source within files counts h = absurd h
+Performs-checked words file bytes x y (Ok (Built gates flops rams)) job source within files counts h = absurd h
 Performs-checked words file bytes x y (Ok (Checked objects weight flops)) job source within files counts h = inr (record {
   file = file;
   job = job;

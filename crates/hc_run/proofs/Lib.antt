@@ -1,7 +1,9 @@
 pub mod Adding
 pub mod Append
 pub mod Buildable
+pub mod CellLists
 pub mod Clauses
+pub mod Digits
 pub mod EdifRows
 pub mod Jobs
 pub mod JobWords

@@ -2,14 +2,18 @@
 use Rattle.std.specs.Prelude.{◌≡◌, ◌+◌, ◌<◌, ◌++◌, ◌∷◌, [], ℕ, List, length, map, drop, codes, decimal, refl}
 use Rattle.std.specs.List.{flat_map}
 use Rattle.std.proofs.Common.{get_or, sym, ◌∙◌, ap, append_assoc}
+use Rattle.hc_net.specs.declared.net.Cell.{Cell}
 use Rattle.hc_net.specs.declared.net.Flop.{Flop}
 use Rattle.hc_net.specs.declared.net.RawNet.{RawNet}
 use Rattle.hc_run.specs.declared.edif.pins.Pin.{Pin}
 use Rattle.hc_run.specs.declared.edif.pins.Reader.{Reader}
 use Rattle.std.proofs.lemmas.List.{at_drop_more}
-use Rattle.hc_net.specs.Run.{cell_base}
-use Rattle.hc_run.specs.Edif.{each_from, port_ref, pin_ref, flop_id, of_net, net_line, numbered_net, clock_net, head_lines, clock_line, port_lines, contents_lines, flop_line, gate_line, readers, drivers, tail_lines, edif}
-use Rattle.hc_run.specs.Pins.{ref_of, read_by, ref_part, net_head, net_end, clock_head, reader_part, clock_part, net_text, clock_text, IsOrdered, interface_text, instances_text, nets_text}
+use Rattle.std.proofs.lemmas.Grind.{flat_map-append}
+use Rattle.hc_net.specs.declared.ram.RamCell.{RamCell}
+use Rattle.hc_net.specs.Run.{cell_base, rams_of}
+use Rattle.hc_run.specs.Edif.{each_from, each_cell, port_ref, pin_ref, flop_id, ram_id, of_net, net_line, numbered_net, clock_net, head_lines, ram_cell_lines, main_lines, clock_line, port_lines, contents_lines, flop_line, cell_line, readers, drivers, tail_lines, edif}
+use Rattle.hc_run.proofs.CellLists.{rams_of_more}
+use Rattle.hc_run.specs.Pins.{ref_of, read_by, ref_part, net_head, net_end, clock_head, reader_part, clock_part, ram_clock_part, net_text, clock_text, IsOrdered, interface_text, instances_text, nets_text}
 
 spaced_readers : (rs : List Reader) → flat_map (λ r. codes " " ++ r) (map (λ r. r.1) (map read_by rs)) ≡ flat_map reader_part rs
 unfolding ref_part
@@ -33,9 +37,42 @@ net_text-is n driver rs whole is =
     ap (λ t. net_head n driver ++ t ++ net_end) (sym (spaced_readers rs) ∙ ap (λ w. flat_map (λ r. codes " " ++ r) (map (λ r. r.1) w)) is)
     ∙ ap (λ t. codes "(net n" ++ t) (regroup (decimal n) (codes " (joined") (ref_of driver) (flat_map (λ r. codes " " ++ r) (map (λ r. r.1) (of_net n whole))) (codes "))\n") 32)
 
-pub clock_text-is : (raw : RawNet) → clock_text raw.flops ≡ clock_net raw
+spaced_ram_clocks : (rs : List RamCell) → flat_map (λ r. codes " " ++ r) (map (λ r. pin_ref (codes "c") (ram_id r.object)) rs) ≡ flat_map ram_clock_part rs
+unfolding ref_part ref_of
+spaced_ram_clocks [] = refl
+spaced_ram_clocks (r ∷ rs) = ap (λ t. (codes " " ++ pin_ref (codes "c") (ram_id r.object)) ++ t) (spaced_ram_clocks rs)
+
+-- the clock pin of the RAM that a cell is, and those of the cells after it
+pub ram_clocks_more : (cells : List Cell) (i : ℕ) (d c : Cell) → i < length cells → c ≡ get_or cells i d
+    → flat_map ram_clock_part (rams_of (drop i cells)) ≡ flat_map ram_clock_part (rams_of (c ∷ [])) ++ flat_map ram_clock_part (rams_of (drop (i + 1) cells))
+ram_clocks_more cells i d c h is =
+    ap (flat_map ram_clock_part) (rams_of_more cells i d c h is)
+    ∙ flat_map-append ram_clock_part (rams_of (c ∷ [])) (rams_of (drop (i + 1) cells))
+
+-- those of flip-flops and of RAMs
+abbrev clocks_of : RawNet → List (List ℕ)
+clocks_of raw = map (λ f. pin_ref (codes "c") (flop_id f.name)) raw.flops ++ map (λ r. pin_ref (codes "c") (ram_id r.object)) (rams_of raw.cells)
+
+spaced_all_clocks : (raw : RawNet) → flat_map (λ r. codes " " ++ r) (clocks_of raw) ≡ flat_map clock_part raw.flops ++ flat_map ram_clock_part (rams_of raw.cells)
+spaced_all_clocks raw =
+    flat_map-append (λ r. codes " " ++ r) (map (λ f. pin_ref (codes "c") (flop_id f.name)) raw.flops) (map (λ r. pin_ref (codes "c") (ram_id r.object)) (rams_of raw.cells))
+    ∙ ap (λ t. t ++ flat_map (λ r. codes " " ++ r) (map (λ r. pin_ref (codes "c") (ram_id r.object)) (rams_of raw.cells))) (spaced_clocks raw.flops)
+    ∙ ap (λ t. flat_map clock_part raw.flops ++ t) (spaced_ram_clocks (rams_of raw.cells))
+
+-- the same pieces in other groups
+regroup_clocks : (h a b e : List ℕ) → (h ++ a) ++ b ++ e ≡ h ++ (a ++ b) ++ e
+regroup_clocks h a b e = simp append_assoc
+
+pub clock_text-is : (raw : RawNet) → clock_text raw.flops (rams_of raw.cells) ≡ clock_net raw
 unfolding clock_head net_end port_ref
-clock_text-is raw = ap (λ t. clock_head ++ t ++ net_end) (sym (spaced_clocks raw.flops))
+clock_text-is raw =
+    regroup_clocks clock_head (flat_map clock_part raw.flops) (flat_map ram_clock_part (rams_of raw.cells)) net_end
+    ∙ ap (λ t. clock_head ++ t ++ net_end) (sym (spaced_all_clocks raw))
+
+-- the same from lists that are those of the netlist
+pub clock_of : (raw : RawNet) {flops : List Flop} {cells : List Cell} → flops ≡ raw.flops → cells ≡ raw.cells → clock_text flops (rams_of cells) ≡ clock_net raw
+clock_of raw {cells = cells} same_flops same_cells =
+    ap (λ fs. clock_text fs (rams_of cells)) same_flops ∙ ap (λ cs. clock_text raw.flops (rams_of cs)) same_cells ∙ clock_text-is raw
 
 -- what is left of all nets begins with net n
 pub net_more : (whole : List (ℕ × List ℕ)) (drivers : List Pin) (n : ℕ) (d : Pin) (here : List Reader) → n < length drivers → map read_by here ≡ of_net n whole
@@ -55,12 +92,13 @@ numbered_nets-is {old} {new} {ds} {es} ordered is =
     ap (each_from (numbered_net new) 0) is
     ∙ each_from_same (numbered_net new) (numbered_net old) (λ n d. ap (λ t. net_line (codes "n" ++ decimal n) (d ∷ map (λ r. r.1) t)) (ordered.same n)) 0 es
 
-nine : (a b c d e f g h i : List ℕ) → (a ++ b ++ c) ++ (d ++ e ++ f) ++ (g ++ h ++ i) ≡ a ++ b ++ c ++ d ++ e ++ f ++ g ++ h ++ i
-nine a b c d e f g h i = simp append_assoc
+eleven : (a b c d e f g h i j k : List ℕ) → ((a ++ b ++ c) ++ d ++ e) ++ (f ++ g ++ h) ++ (i ++ j ++ k) ≡ a ++ b ++ c ++ d ++ e ++ f ++ g ++ h ++ i ++ j ++ k
+eleven a b c d e f g h i j k = simp append_assoc
 
 -- the three parts are the whole text
 pub edif-is : (raw : RawNet) → interface_text raw ++ instances_text raw ++ nets_text raw ≡ edif raw
 unfolding edif
 edif-is raw =
-    nine head_lines (clock_line raw.clock) (each_from port_lines 0 raw.ports) contents_lines (flat_map flop_line raw.flops)
-    (each_from gate_line (cell_base raw) raw.cells) (clock_net raw) (each_from (numbered_net (readers raw)) 0 (drivers raw)) tail_lines
+    eleven head_lines (ram_cell_lines raw.cells) main_lines (clock_line raw.clock) (each_from port_lines 0 raw.ports)
+    contents_lines (flat_map flop_line raw.flops) (each_cell cell_line (cell_base raw) raw.cells)
+    (clock_net raw) (each_from (numbered_net (readers raw)) 0 (drivers raw)) tail_lines

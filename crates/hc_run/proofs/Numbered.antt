@@ -3,7 +3,9 @@ use Rattle.std.specs.Prelude.{◌≡◌, ◌+◌, ◌-◌, ◌<◌, ◌++◌, �
 use Rattle.std.specs.List.{flat_map, range_with_len}
 use Rattle.std.proofs.Common.{get_or, sym, ◌∙◌, ap, arith}
 use Rattle.std.proofs.lemmas.List.{at_drop_more}
-use Rattle.hc_run.specs.Edif.{each_from}
+use Rattle.hc_net.specs.declared.net.Cell.{Cell}
+use Rattle.hc_net.specs.Run.{cell_width}
+use Rattle.hc_run.specs.Edif.{each_from, each_cell}
 
 -- the element at i, and those after it
 pub flat_map_more : {X A : Type 0} (f : X → List A) (xs : List X) (i : ℕ) (d : X) → i < length xs
@@ -50,3 +52,10 @@ pub range_map_more : {A : Type 0} (f : ℕ → A) (i n : ℕ) → i < n
 range_map_more f i n h =
     let one : n - i ≡ suc (n - (i + 1)) = omega arith in
     ap (λ m. map f (range_with_len i m)) one
+
+-- the cell at i, of width w, and those after it
+pub each_cell_more : {A : Type 0} (f : ℕ → Cell → List A) (n w : ℕ) (xs : List Cell) (i : ℕ) (d c : Cell) → i < length xs → c ≡ get_or xs i d → w ≡ cell_width c
+    → each_cell f n (drop i xs) ≡ f n c ++ each_cell f (n + w) (drop (i + 1) xs)
+each_cell_more f n w xs i d c h is width =
+    at_drop_more (each_cell f n) xs i d h ∙ ap (λ x. f n x ++ each_cell f (n + cell_width x) (drop (i + 1) xs)) (sym is)
+    ∙ ap (λ m. f n c ++ each_cell f (n + m) (drop (i + 1) xs)) (sym width)

@@ -8,9 +8,9 @@ use Rattle.hc_run.specs.Refused.{rule_name, detail_text, refusal_line}
 use Rattle.hc_run.specs.Lines.{built_line, checked_line, role_name, read_fault_line, longer_line}
 use Rattle.hc_run.specs.Answer.{not_built}
 
-row_built : built_line 6 8 ≡ codes "built: gates 6, flip-flops 8, rams 0\n"
+row_built : built_line 6 8 2 ≡ codes "built: gates 6, flip-flops 8, rams 2\n"
 unfolding built_line
-row_built = rw (decimal_digit 6 (omega arith), decimal_digit 8 (omega arith)) refl
+row_built = rw (decimal_digit 6 (omega arith), decimal_digit 8 (omega arith), decimal_digit 2 (omega arith)) refl
 
 row_checked : checked_line 1 3 8 ≡ codes "objects 1, weight 3, flip-flops 8\n"
 unfolding checked_line

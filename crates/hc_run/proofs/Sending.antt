@@ -131,6 +131,20 @@ pub err_of_third : {before mid next a b piece : List ℕ} (c : List ℕ) {x y z 
 err_of_third {next = next} {piece = piece} c {z = z} w r is first second h =
     IfErr-weaker r _ _ (λ e s. Stopped-more c (Sent-more first second) (subst (λ t. Stopped (next ++ t) e z w) is s)) h
 
+-- ---- Two pieces
+
+pub exit_in_first_of_two : (before : List ℕ) {piece : List ℕ} (a b : List ℕ) {e : WriteErr} {x y : SinkState} (r : Result (Unit {0}) WriteErr) → IsErr r × IsErrAnd r (λ d. d ≡ e)
+    → piece ≡ a → Stopped (before ++ piece) e x y → IfErr r (λ d. Stopped (before ++ (a ++ b)) d x y)
+exit_in_first_of_two before a b r from is h = let p = err_from_is_err_and r from.1 in rw (p.1, p.2) (Stopped-first before a b (Stopped-at before is h))
+
+pub ok_of_second : {before mid a : List ℕ} (b after : List ℕ) {x y : SinkState} (z : SinkState) (r : Result (Unit {0}) WriteErr)
+    → Sent a before mid x y → OnOk r (Sent b mid after y z) → OnOk r (Sent (a ++ b) before after x z)
+ok_of_second b after z r first h = on_ok_weaker r (λ s. Sent-more first s) h
+
+pub err_of_second : {before mid a : List ℕ} (b : List ℕ) {x y : SinkState} (z : SinkState) (r : Result (Unit {0}) WriteErr)
+    → Sent a before mid x y → IfErr r (λ e. Stopped (mid ++ b) e y z) → IfErr r (λ e. Stopped (before ++ (a ++ b)) e x z)
+err_of_second b z r first h = IfErr-weaker r _ _ (λ e s. Stopped-more b first s) h
+
 -- the same for all the bytes that another list is
 pub ok_at : {a b : List ℕ} (before after : List ℕ) (x y : SinkState) (r : Result (Unit {0}) WriteErr) → a ≡ b → OnOk r (Sent a before after x y) → OnOk r (Sent b before after x y)
 ok_at before after x y r is h = on_ok_weaker r (Sent-at is) h

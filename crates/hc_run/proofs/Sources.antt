@@ -22,6 +22,7 @@ use Rattle.hc_core.specs.Rules.{first_broken}
 use Rattle.hc_rules.specs.Weight.{most_weight, too_heavy}
 use Rattle.hc_run.specs.Answer.{IsSource, Accepted, BreaksTokens, FirstOfCore, of_rule, of_weight, of_form, not_built, FirstOfTokens, of_grammar, of_tree, of_core, First, of_bytes, of_tokens, IfRefusal, HasCore, HasRefusal}
 use Rattle.hc_build.specs.Built.{unbuilt, IsBuildable}
+use Rattle.hc_run.specs.Weighed.{Weighs, TokensWeigh, TreeWeighs}
 use Rattle.hc_run.specs.Source.{IsTreeOf, FirstOfTree, of_expansion, of_expanded, IsUnbuilt}
 
 -- ---- the tokens of a source spell its tree as `expand` asks
@@ -35,8 +36,8 @@ pub accepted : (bytes : List ℕ) (h : HasTokens 0 start bytes) (result : Result
 accepted bytes h (Ok core) e = record { lexed = h; source = e }
 accepted bytes h (Err e) f = tt
 
-pub refused : (bytes : List ℕ) (h : HasTokens 0 start bytes) (result : Result Core FrontErr) → IfErr result (λ e. IfRefusal e (FirstOfTokens h.tokens h.end)) → IfErr result (λ e. IfRefusal e (First bytes))
-refused bytes h (Ok core) f = tt
+pub refused : {A : Type 0} (bytes : List ℕ) (h : HasTokens 0 start bytes) (result : Result A FrontErr) → IfErr result (λ e. IfRefusal e (FirstOfTokens h.tokens h.end)) → IfErr result (λ e. IfRefusal e (First bytes))
+refused bytes h (Ok found) f = tt
 refused bytes h (Err (Refused refusal)) f = of_tokens (record { lexed = h; breaks = f })
 refused bytes h (Err NoMemory) f = tt
 
@@ -51,9 +52,9 @@ broken_tree ts end tree parses refusal (of_expansion stops) = of_tree (record { 
 broken_tree ts end tree parses refusal (of_expanded core expands breaks) =
     of_core (record { has_tree = record { tree = tree; parses = parses }; core = core; expands = expands; breaks = breaks })
 
-pub broken : (ts : List Placed) (end : Place) (tree : Tree) → Parses ts tree → (result : Result Core FrontErr) → IfErr result (λ e. IfRefusal e (FirstOfTree tree))
+pub broken : {A : Type 0} (ts : List Placed) (end : Place) (tree : Tree) → Parses ts tree → (result : Result A FrontErr) → IfErr result (λ e. IfRefusal e (FirstOfTree tree))
     → IfErr result (λ e. IfRefusal e (FirstOfTokens ts end))
-broken ts end tree parses (Ok core) f = tt
+broken ts end tree parses (Ok found) f = tt
 broken ts end tree parses (Err (Refused refusal)) f = broken_tree ts end tree parses refusal f
 broken ts end tree parses (Err NoMemory) f = tt
 
@@ -74,6 +75,16 @@ broken_core tree core expands (Err NoMemory) f = tt
 pub broken_form : {A : Type 0} (core : Core) → first_broken core ≡ None → weight_of core ≤ most_weight → (result : Result A Refusal) → IfErr result (IsUnbuilt core) → IfErr result (FirstOfCore core)
 broken_form core rules light (Ok found) f = tt
 broken_form core rules light (Err refusal) f = of_form rules light f.place f.first f.is
+
+-- ---- what is weighed
+
+pub tree_weighed : (ts : List Placed) (tree : Tree) → Parses ts tree → (result : Result ℕ FrontErr) → IfOk result (TreeWeighs tree) → IfOk result (TokensWeigh ts)
+tree_weighed ts tree parses (Ok weight) h = record { has_tree = record { tree = tree; parses = parses }; tree = h }
+tree_weighed ts tree parses (Err e) h = tt
+
+pub tokens_weighed : (bytes : List ℕ) (h : HasTokens 0 start bytes) (result : Result ℕ FrontErr) → IfOk result (TokensWeigh h.tokens) → IfOk result (Weighs bytes)
+tokens_weighed bytes h (Ok weight) k = record { lexed = h; tokens = k }
+tokens_weighed bytes h (Err e) k = tt
 
 -- ---- the laws, from those of the tokens
 

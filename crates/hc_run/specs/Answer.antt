@@ -22,6 +22,7 @@ use Rattle.hc_scope.specs.Expands as tree
 use Rattle.hc_core.specs.Rules.{first_broken}
 use Rattle.hc_rules.specs.Weight.{most_weight, too_heavy}
 use Rattle.hc_net.specs.declared.net.RawNet.{RawNet}
+use Rattle.hc_net.specs.Run.{gate_count, ram_count}
 use Rattle.hc_net.specs.Valid.{IsValid}
 use Rattle.hc_run.specs.declared.status.Role.{Role}
 use Rattle.hc_run.specs.declared.status.Status.{Status}
@@ -149,7 +150,7 @@ pub record HasBuilt (words : List (List ℕ)) (old new : StoreState) (line : Lis
   pub raw : RawNet
   pub compiles : Compiles words old name raw
   pub saves : Saved name (edif raw) old new
-  pub says : line ≡ built_line (length raw.cells) (length raw.flops)
+  pub says : line ≡ built_line (gate_count raw.cells) (length raw.flops) (ram_count raw.cells)
 
 -- Done of `check`: the source that the words name is there within its limit, it has a core, no file has changed, and the
 -- line has the core's counts.

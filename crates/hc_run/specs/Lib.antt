@@ -9,3 +9,4 @@ pub mod Sent
 pub mod Source
 pub mod Steps
 pub mod Words
+pub mod Weighed

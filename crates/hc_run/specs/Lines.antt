@@ -3,9 +3,10 @@ use Rattle.std.specs.Prelude.{ℕ, List, ◌++◌, codes, decimal}
 use Rattle.hc_run.specs.declared.status.Role.{Role}
 use Rattle.hc_run.specs.declared.status.Role.TheVariants.{Source}
 
--- what was built, with the numbers of gates and flip-flops
-unfoldable pub built_line : ℕ → ℕ → List ℕ
-built_line gates flops = codes "built: gates " ++ decimal gates ++ codes ", flip-flops " ++ decimal flops ++ codes ", rams 0\n"
+-- what was built, with the numbers of gates, flip-flops and RAMs
+unfoldable pub built_line : ℕ → ℕ → ℕ → List ℕ
+built_line gates flops rams =
+    codes "built: gates " ++ decimal gates ++ codes ", flip-flops " ++ decimal flops ++ codes ", rams " ++ decimal rams ++ codes "\n"
 
 -- what was checked, with the number of objects, the weight and the number of flip-flops
 unfoldable pub checked_line : ℕ → ℕ → ℕ → List ℕ

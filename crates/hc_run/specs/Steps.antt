@@ -10,6 +10,7 @@ use Rattle.hc_tree.specs.declared.refusal.Refusal.{Refusal}
 use Rattle.hc_core.specs.Weight.{weight_of, flops_of}
 use Rattle.hc_core.specs.declared.object.Core.{Core}
 use Rattle.hc_net.specs.declared.net.RawNet.{RawNet}
+use Rattle.hc_net.specs.Run.{gate_count, ram_count}
 use Rattle.hc_net.specs.Valid.{IsValid}
 use Rattle.hc_run.specs.declared.status.Status.{Status}
 use Rattle.hc_run.specs.declared.status.Status.TheVariants as status
@@ -23,7 +24,7 @@ use Rattle.hc_run.specs.Answer.{Accepted, First, Saved, files_of, HoldsFront, Is
 
 -- the status that is due
 abbrev pub status_of : Due → Status
-status_of (Built gates flops) = status.Done
+status_of (Built gates flops rams) = status.Done
 status_of (Checked objects weight flops) = status.Done
 status_of (Refused refusal) = status.Refused refusal
 status_of Usage = status.Usage
@@ -32,7 +33,7 @@ status_of (Longer role) = status.Longer role
 
 -- the line of that status
 abbrev pub text_of : Due → List ℕ
-text_of (Built gates flops) = built_line gates flops
+text_of (Built gates flops rams) = built_line gates flops rams
 text_of (Checked objects weight flops) = checked_line objects weight flops
 text_of (Refused refusal) = refusal_line refusal
 text_of Usage = usage_line
@@ -56,7 +57,7 @@ pub record FilledFront (bytes : List ℕ) (old new : StoreState) : Type 0 where
 
 -- how a netlist was saved under a name
 abbrev pub Saves : RawNet → List ℕ → StoreState → StoreState → Result Due WriteErr → Type 0
-Saves raw name old new (Ok (Built gates flops)) = (gates ≡ length raw.cells) × (flops ≡ length raw.flops) × Saved name (edif raw) old new
+Saves raw name old new (Ok (Built gates flops rams)) = (gates ≡ gate_count raw.cells) × (flops ≡ length raw.flops) × (rams ≡ ram_count raw.cells) × Saved name (edif raw) old new
 Saves raw name old new (Ok (Checked objects weight flops)) = ⊥
 Saves raw name old new (Ok (Refused refusal)) = ⊥
 Saves raw name old new (Ok Usage) = ⊥
@@ -105,7 +106,7 @@ pub record Counts (bytes : List ℕ) (of_objects of_weight of_flops : ℕ) : Typ
 abbrev pub ChecksSource : List ℕ → Result Due WriteErr → Type 0
 ChecksSource bytes (Ok (Checked objects weight flops)) = Counts bytes objects weight flops
 ChecksSource bytes (Ok (Refused refusal)) = First bytes refusal
-ChecksSource bytes (Ok (Built gates flops)) = ⊥
+ChecksSource bytes (Ok (Built gates flops rams)) = ⊥
 ChecksSource bytes (Ok Usage) = ⊥
 ChecksSource bytes (Ok (ReadFault role)) = ⊥
 ChecksSource bytes (Ok (Longer role)) = ⊥

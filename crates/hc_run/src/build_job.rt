@@ -10,6 +10,7 @@ ghost use Rattle.hc_run.specs.Words.{IsBuild};
 ghost use Rattle.hc_run.specs.Answer.{source_limit, Saved, HoldsFront, MovesCounts};
 ghost use Rattle.hc_run.specs.Steps.{Filled, FilledFront, Saves, BuildsCore, CompilesSource, Performs};
 
+use crate::cells::{gate_count, ram_count};
 use crate::check_job::check_file;
 use crate::due::Due;
 use crate::edif::write_edif;
@@ -120,7 +121,7 @@ fn net_of(alloc: Global, core: &Core) -> Result<Net, NoMemory>
     }
 }
 
-/// Saves a netlist, and says how many gates and flip-flops it has.
+/// Saves a netlist, and says how many gates, flip-flops and RAMs it has.
 fn save_net<S: Store>(
     alloc: Global,
     raw: &RawNet,
@@ -134,8 +135,9 @@ fn save_net<S: Store>(
 {
     match save_edif(alloc, raw, name, store) {
         Ok(()) => Ok(Due::Built {
-            gates: raw.cells.len(),
+            gates: gate_count(raw.cells.as_slice()),
             flops: raw.flops.len(),
+            rams: ram_count(raw.cells.as_slice()),
         }),
         Err(WriteErr::WriteFault) => Err(WriteErr::WriteFault),
         Err(WriteErr::NoMemory) => Err(WriteErr::NoMemory),

@@ -11,10 +11,11 @@ use std::alloc::{AllocError, Global};
 /// How a job ended, before its line is written.
 #[derive(Drop)]
 pub(crate) enum Due {
-    /// A netlist with so many gates and flip-flops was saved.
+    /// A netlist with so many gates, flip-flops and RAMs was saved.
     Built {
         gates: usize,
         flops: usize,
+        rams: usize,
     },
     /// A core was checked that has so many objects, this weight and so many flip-flops.
     Checked {
@@ -48,7 +49,7 @@ impl Due {
         ensures { IfOk result (λ line. line.items ≡ text_of self.now) }
     {
         match self {
-            Due::Built { gates, flops } => built(alloc, *gates, *flops),
+            Due::Built { gates, flops, rams } => built(alloc, *gates, *flops, *rams),
             Due::Checked {
                 objects,
                 weight,
@@ -63,15 +64,17 @@ impl Due {
 }
 
 #[tactic(auto, unfolding(crate::specs::Lines::built_line))]
-fn built(alloc: Global, gates: usize, flops: usize) -> Result<Vec<u8>, AllocError>
-    ensures { IfOk result (λ line. line.items ≡ built_line gates flops) }
+fn built(alloc: Global, gates: usize, flops: usize, rams: usize) -> Result<Vec<u8>, AllocError>
+    ensures { IfOk result (λ line. line.items ≡ built_line gates flops rams) }
 {
     let mut digits = Buffer::new();
     let mut line = Vec::from_slice(alloc, b"built: gates ")?;
     line.extend_from_slice(digits.format(gates).as_bytes())?;
     line.extend_from_slice(b", flip-flops ")?;
     line.extend_from_slice(digits.format(flops).as_bytes())?;
-    line.extend_from_slice(b", rams 0\n")?;
+    line.extend_from_slice(b", rams ")?;
+    line.extend_from_slice(digits.format(rams).as_bytes())?;
+    line.extend_from_slice(b"\n")?;
     Ok(line)
 }
 

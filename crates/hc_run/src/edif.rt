@@ -7,12 +7,14 @@ ghost use Rattle.hc_net.specs.Valid.{IsValid};
 ghost use Rattle.hc_outside.specs.Count.{HasRisen};
 ghost use Rattle.hc_outside.specs.Sink.{Wrote, WroteFront};
 ghost use Rattle.hc_run.specs.Edif.{each_from, numbered_net, readers, drivers, edif};
-ghost use Rattle.hc_run.specs.Pins.{interface_text, instances_text, nets_text};
+ghost use Rattle.hc_run.specs.Pins.{library_text, interface_text, instances_text, nets_text};
 ghost use Rattle.hc_run.specs.Sent.{Sent, Stopped};
 
+mod digits;
 mod drivers;
 mod frame;
 mod instances;
+mod library;
 mod names;
 mod nets;
 mod pins;
@@ -21,16 +23,33 @@ mod readers;
 mod sizes;
 
 use crate::edif::drivers::drivers;
-use crate::edif::frame::{contents, head, tail};
-use crate::edif::instances::{send_flop_lines, send_gate_lines};
+use crate::edif::frame::{contents, head, main_cell, tail};
+use crate::edif::instances::{send_cell_lines, send_flop_lines};
+use crate::edif::library::send_ram_cells;
 use crate::edif::nets::{send_clock_net, send_nets};
 use crate::edif::ports::{send_clock_line, send_port_lines};
 use crate::edif::readers::ordered_readers;
-use crate::edif::sizes::first_gate;
+use crate::edif::sizes::first_cell;
 use crate::text::send_piece;
 use hc_net::RawNet;
 use hc_outside::{Sink, WriteErr, write_all};
 use std::alloc::Global;
+
+/// Sends the library, up to the ports of the main cell.
+fn send_library<K: Sink>(
+    alloc: Global,
+    net: &RawNet,
+    text: &mut Vec<u8>,
+    out: &mut K,
+) -> Result<(), WriteErr>
+    requires { (K.state out.old).ready ≡ true }
+    ensures ok { OnOk result (Sent (library_text net.now) text.old.items text.new.items (K.state out.old) (K.state out.new)) }
+    ensures err { IfErr result (λ e. Stopped (text.old.items ++ library_text net.now) e (K.state out.old) (K.state out.new)) }
+{
+    send_piece(alloc, head(), text, out)?;
+    send_ram_cells(alloc, net.cells.as_slice(), text, out)?;
+    send_piece(alloc, main_cell(), text, out)
+}
 
 /// Sends the library, and the main cell's ports.
 fn send_interface<K: Sink>(
@@ -44,12 +63,12 @@ fn send_interface<K: Sink>(
     ensures ok { OnOk result (Sent (interface_text net.now) text.old.items text.new.items (K.state out.old) (K.state out.new)) }
     ensures err { IfErr result (λ e. Stopped (text.old.items ++ interface_text net.now) e (K.state out.old) (K.state out.new)) }
 {
-    send_piece(alloc, head(), text, out)?;
+    send_library(alloc, net, text, out)?;
     send_clock_line(alloc, &net.clock, text, out)?;
     send_port_lines(alloc, net.ports.as_slice(), text, out)
 }
 
-/// Sends the instances, where the first gate's net is `first`.
+/// Sends the instances, where the first cell's first net is `first`.
 fn send_instances<K: Sink>(
     alloc: Global,
     net: &RawNet,
@@ -65,10 +84,10 @@ fn send_instances<K: Sink>(
 {
     send_piece(alloc, contents(), text, out)?;
     send_flop_lines(alloc, net.flops.as_slice(), text, out)?;
-    send_gate_lines(alloc, first, net.cells.as_slice(), text, out)
+    send_cell_lines(alloc, first, net.cells.as_slice(), text, out)
 }
 
-/// Sends the nets with numbers, where the first gate's net is `first`.
+/// Sends the nets with numbers, where the first cell's first net is `first`.
 fn send_numbered_nets<K: Sink>(
     alloc: Global,
     net: &RawNet,
@@ -91,7 +110,7 @@ fn send_numbered_nets<K: Sink>(
     }
 }
 
-/// Sends the nets and the end of the text, where the first gate's net is `first`.
+/// Sends the nets and the end of the text, where the first cell's first net is `first`.
 fn send_all_nets<K: Sink>(
     alloc: Global,
     net: &RawNet,
@@ -105,7 +124,7 @@ fn send_all_nets<K: Sink>(
     ensures ok { OnOk result (Sent (nets_text net.now) text.old.items text.new.items (K.state out.old) (K.state out.new)) }
     ensures err { IfErr result (λ e. Stopped (text.old.items ++ nets_text net.now) e (K.state out.old) (K.state out.new)) }
 {
-    send_clock_net(alloc, net.flops.as_slice(), text, out)?;
+    send_clock_net(alloc, net.flops.as_slice(), net.cells.as_slice(), text, out)?;
     send_numbered_nets(alloc, net, first, text, out)?;
     send_piece(alloc, tail(), text, out)
 }
@@ -122,7 +141,7 @@ fn send_edif<K: Sink>(
     ensures ok { OnOk result (Sent (edif net.now) text.old.items text.new.items (K.state out.old) (K.state out.new)) }
     ensures err { IfErr result (λ e. Stopped (text.old.items ++ edif net.now) e (K.state out.old) (K.state out.new)) }
 {
-    let first = first_gate(net);
+    let first = first_cell(net);
     send_interface(alloc, net, text, out)?;
     send_instances(alloc, net, first, text, out)?;
     send_all_nets(alloc, net, first, text, out)

@@ -1,7 +1,8 @@
-//! The jobs of `hcc`, and the top call; and the core of a source, by itself.
+//! The jobs of `hcc`, and the top call; and by themselves the core of a source, and what it weighs.
 #![tactic(auto)]
 
 mod build_job;
+mod cells;
 mod check_job;
 mod due;
 mod edif;
@@ -11,6 +12,7 @@ mod source;
 mod status;
 mod text;
 mod top;
+mod weigh;
 mod words;
 
 pub use edif::write_edif;
@@ -19,3 +21,4 @@ pub use refused::refusal_line;
 pub use source::{SOURCE_LIMIT, read_source};
 pub use status::{Role, Status};
 pub use top::hcc;
+pub use weigh::weigh_source;

@@ -3,9 +3,9 @@ use Rattle.std.proofs.Common.{◌≡◌, ◌≢◌, ◌<◌, ◌≤◌, ℕ, zer
 use Rattle.std.specs.Prelude.{slice_get, All}
 use Rattle.std.proofs.lemmas.Option.{slice_get_within}
 use Rattle.std.proofs.lemmas.List.Elements.{All-cons, All-nil}
-use Rattle.hc_net.specs.Circuit.{flops_of}
+use Rattle.hc_net.specs.Circuit.{flops_of, memories_of}
 use Rattle.hc_net.specs.Seal.{IsSealable, Within}
-use Rattle.hc_net.specs.Valid.{HasSizes, PortHasSizes, port_name}
+use Rattle.hc_net.specs.Valid.{HasSizes, PortHasSizes, RamHasSizes, port_name}
 use Rattle.hc_net.specs.declared.net.Port.{Port}
 use Rattle.hc_net.specs.declared.net.FlopName.{FlopName}
 use Rattle.hc_net.specs.declared.node.Node.TheVariants.{Flop, Wire}
@@ -45,11 +45,16 @@ two_sizes a b x y = All-cons PortHasSizes a (b ∷ []) x (All-cons PortHasSizes 
 one : length (flops_of small.nodes) ≤ 1
 one = omega arith
 
+none : length (memories_of small.nodes) ≤ 1
+none = omega arith
+
 pub small_sealable : IsSealable small
 small_sealable = record {
   fed = fed;
   driven = driven;
   flop_names = λ i j f g lt first second. absurd (one_alone (flops_of small.nodes) i j g one lt second);
+  ram_names = λ i j r q lt first second. absurd (one_alone (memories_of small.nodes) i j q none lt second);
   port_names = two_names _ _ (λ e. absurd (let first = ap (λ (l : List ℕ). get_or l 0 0) e in omega arith));
   sizes = two_sizes _ _ one_wide one_wide;
+  ram_sizes = All-nil RamHasSizes;
 }

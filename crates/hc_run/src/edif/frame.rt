@@ -1,8 +1,8 @@
 ghost use Rattle.std.specs.Prelude.{◌≡◌};
-ghost use Rattle.hc_run.specs.Edif.{head_lines, contents_lines, tail_lines};
+ghost use Rattle.hc_run.specs.Edif.{head_lines, main_lines, contents_lines, tail_lines};
 ghost use Rattle.hc_run.specs.Pins.{clock_head, net_end};
 
-/// The library of cells, and the main cell up to its ports.
+/// The library up to the cells of flip-flops.
 #[tactic(auto, unfolding(crate::specs::Edif::head_lines))]
 pub(crate) fn head() -> &'static [u8]
     ensures { result.now ≡ head_lines }
@@ -16,8 +16,15 @@ pub(crate) fn head() -> &'static [u8]
 (cell HC_OR2 (cellType GENERIC) (view v (viewType NETLIST) (interface (port y (direction OUTPUT)) (port a (direction INPUT)) (port b (direction INPUT)))))\n\
 (cell HC_XOR2 (cellType GENERIC) (view v (viewType NETLIST) (interface (port y (direction OUTPUT)) (port a (direction INPUT)) (port b (direction INPUT)))))\n\
 (cell HC_DFF0 (cellType GENERIC) (view v (viewType NETLIST) (interface (port q (direction OUTPUT)) (port d (direction INPUT)) (port c (direction INPUT)))))\n\
-(cell HC_DFF1 (cellType GENERIC) (view v (viewType NETLIST) (interface (port q (direction OUTPUT)) (port d (direction INPUT)) (port c (direction INPUT)))))\n\
-(cell main (cellType GENERIC) (view v (viewType NETLIST) (interface\n"
+(cell HC_DFF1 (cellType GENERIC) (view v (viewType NETLIST) (interface (port q (direction OUTPUT)) (port d (direction INPUT)) (port c (direction INPUT)))))\n"
+}
+
+/// The main cell up to its ports.
+#[tactic(auto, unfolding(crate::specs::Edif::main_lines))]
+pub(crate) fn main_cell() -> &'static [u8]
+    ensures { result.now ≡ main_lines }
+{
+    b"(cell main (cellType GENERIC) (view v (viewType NETLIST) (interface\n"
 }
 
 /// The end of the main cell's ports.

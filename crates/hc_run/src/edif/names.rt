@@ -1,5 +1,5 @@
 ghost use Rattle.std.specs.Prelude.{◌≡◌, ◌++◌, OnOk};
-ghost use Rattle.hc_run.specs.Edif.{port_id, flop_id, gate_id};
+ghost use Rattle.hc_run.specs.Edif.{port_id, flop_id, gate_id, ram_id, ram_cell, ram_pin};
 
 use crate::text::push_number;
 use hc_net::FlopName;
@@ -42,4 +42,33 @@ pub(crate) fn push_gate_id(text: &mut Vec<u8>, net: u32) -> Result<(), AllocErro
 {
     text.extend_from_slice(b"g")?;
     push_number(text, net)
+}
+
+/// Appends the name of the instance of the RAM of an object.
+#[tactic(auto, using(crate::proofs::Append::appends), unfolding(crate::specs::Edif::ram_id))]
+pub(crate) fn push_ram_id(text: &mut Vec<u8>, object: u32) -> Result<(), AllocError>
+    ensures { OnOk result (text.new.items ≡ text.old.items ++ ram_id object) }
+{
+    text.extend_from_slice(b"M")?;
+    push_number(text, object)
+}
+
+/// Appends the name of the cell of RAMs of `words` words of `width` bits.
+#[tactic(auto, using(crate::proofs::Append::appends), unfolding(crate::specs::Edif::ram_cell))]
+pub(crate) fn push_ram_cell(text: &mut Vec<u8>, words: u32, width: u32) -> Result<(), AllocError>
+    ensures { OnOk result (text.new.items ≡ text.old.items ++ ram_cell words width) }
+{
+    text.extend_from_slice(b"HC_RAM_")?;
+    push_number(text, words)?;
+    text.extend_from_slice(b"_")?;
+    push_number(text, width)
+}
+
+/// Appends the name of the pin of a RAM that a letter and a number name.
+#[tactic(auto, using(crate::proofs::Append::appends), unfolding(crate::specs::Edif::ram_pin))]
+pub(crate) fn push_ram_pin(text: &mut Vec<u8>, letter: &[u8], bit: u32) -> Result<(), AllocError>
+    ensures { OnOk result (text.new.items ≡ text.old.items ++ ram_pin letter.now bit) }
+{
+    text.extend_from_slice(letter)?;
+    push_number(text, bit)
 }

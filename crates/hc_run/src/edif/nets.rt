@@ -1,13 +1,15 @@
-ghost use Rattle.std.specs.Prelude.{◌≡◌, ◌+◌, ◌<◌, ◌≤◌, ◌^◌, ◌++◌, true, length, map, take, drop, OnOk, IfErr};
+ghost use Rattle.std.specs.Prelude.{◌≡◌, ◌+◌, ◌<◌, ◌≤◌, ◌^◌, ◌++◌, ◌∷◌, [], true, length, map, take, drop, OnOk, IfErr};
 ghost use Rattle.std.specs.List.{flat_map};
+ghost use Rattle.hc_net.specs.Run.{rams_of};
 ghost use Rattle.hc_run.specs.Edif.{each_from, numbered_net};
-ghost use Rattle.hc_run.specs.Pins.{ref_of, read_by, Rises, IsSplit, net_head, reader_part, clock_part, net_text, clock_text};
+ghost use Rattle.hc_run.specs.Pins.{ref_of, read_by, Rises, IsSplit, net_head, clock_head, reader_part, clock_part, ram_clock_part, net_text, clock_text};
 ghost use Rattle.hc_run.specs.Sent.{Sent, Stopped};
 
+use crate::cells::ram_of;
 use crate::edif::frame::{clock_head, net_end};
 use crate::edif::pins::{Pin, Reader, push_ref, push_ref_part};
 use crate::text::{push_number, send, send_piece};
-use hc_net::Flop;
+use hc_net::{Cell, Flop};
 use hc_outside::{Sink, WriteErr};
 use std::alloc::{AllocError, Global};
 
@@ -116,7 +118,7 @@ pub(crate) fn send_nets<K: Sink>(
 }
 
 /// Sends the clock pins of flip-flops.
-fn send_clock_pins<K: Sink>(
+fn send_flop_clocks<K: Sink>(
     alloc: Global,
     flops: &[Flop],
     text: &mut Vec<u8>,
@@ -135,18 +137,64 @@ fn send_clock_pins<K: Sink>(
     Ok(())
 }
 
-/// Sends the clock's net.
-pub(crate) fn send_clock_net<K: Sink>(
+/// Appends the clock pin of a RAM, where the cell is one.
+fn push_ram_clock(text: &mut Vec<u8>, cell: &Cell) -> Result<(), AllocError>
+    ensures { OnOk result (text.new.items ≡ text.old.items ++ flat_map ram_clock_part (rams_of (cell.now ∷ []))) }
+{
+    match ram_of(cell) {
+        Some(ram) => push_ref_part(text, Pin::RamC(ram.object)),
+        None => Ok(()),
+    }
+}
+
+/// Sends the clock pins of RAMs.
+fn send_ram_clocks<K: Sink>(
+    alloc: Global,
+    cells: &[Cell],
+    text: &mut Vec<u8>,
+    out: &mut K,
+) -> Result<(), WriteErr>
+    requires { (K.state out.old).ready ≡ true }
+    ensures ok { OnOk result (Sent (flat_map ram_clock_part (rams_of cells.now)) text.old.items text.new.items (K.state out.old) (K.state out.new)) }
+    ensures err { IfErr result (λ e. Stopped (text.old.items ++ flat_map ram_clock_part (rams_of cells.now)) e (K.state out.old) (K.state out.new)) }
+{
+    for cell in cells {
+        match push_ram_clock(text, cell) {
+            Ok(()) => send(alloc, text, out)?,
+            Err(_) => return Err(WriteErr::NoMemory),
+        }
+    }
+    Ok(())
+}
+
+/// Sends the clock's net up to the last flip-flop.
+fn send_clock_head<K: Sink>(
     alloc: Global,
     flops: &[Flop],
     text: &mut Vec<u8>,
     out: &mut K,
 ) -> Result<(), WriteErr>
     requires { (K.state out.old).ready ≡ true }
-    ensures ok { OnOk result (Sent (clock_text flops.now) text.old.items text.new.items (K.state out.old) (K.state out.new)) }
-    ensures err { IfErr result (λ e. Stopped (text.old.items ++ clock_text flops.now) e (K.state out.old) (K.state out.new)) }
+    ensures ok { OnOk result (Sent (clock_head ++ flat_map clock_part flops.now) text.old.items text.new.items (K.state out.old) (K.state out.new)) }
+    ensures err { IfErr result (λ e. Stopped (text.old.items ++ (clock_head ++ flat_map clock_part flops.now)) e (K.state out.old) (K.state out.new)) }
 {
     send_piece(alloc, clock_head(), text, out)?;
-    send_clock_pins(alloc, flops, text, out)?;
+    send_flop_clocks(alloc, flops, text, out)
+}
+
+/// Sends the clock's net.
+pub(crate) fn send_clock_net<K: Sink>(
+    alloc: Global,
+    flops: &[Flop],
+    cells: &[Cell],
+    text: &mut Vec<u8>,
+    out: &mut K,
+) -> Result<(), WriteErr>
+    requires { (K.state out.old).ready ≡ true }
+    ensures ok { OnOk result (Sent (clock_text flops.now (rams_of cells.now)) text.old.items text.new.items (K.state out.old) (K.state out.new)) }
+    ensures err { IfErr result (λ e. Stopped (text.old.items ++ clock_text flops.now (rams_of cells.now)) e (K.state out.old) (K.state out.new)) }
+{
+    send_clock_head(alloc, flops, text, out)?;
+    send_ram_clocks(alloc, cells, text, out)?;
     send_piece(alloc, net_end(), text, out)
 }

@@ -1,12 +1,12 @@
 ghost use Rattle.std.specs.Prelude.{◌≡◌, ◌++◌, OnOk};
-ghost use Rattle.hc_run.specs.Edif.{port_id, flop_id, gate_id, port_ref, pin_ref};
+ghost use Rattle.hc_run.specs.Edif.{port_id, flop_id, gate_id, ram_id, ram_pin, port_ref, pin_ref};
 ghost use Rattle.hc_run.specs.Pins.{ref_of, ref_part};
 
-use crate::edif::names::{push_flop_id, push_gate_id, push_port_id};
+use crate::edif::names::{push_flop_id, push_gate_id, push_port_id, push_ram_id, push_ram_pin};
 use hc_net::FlopName;
 use std::alloc::AllocError;
 
-/// A pin that a net joins. A gate is named by the net of its output.
+/// A pin that a net joins. A gate is named by the net of its output, and a RAM by its object.
 #[derive(Clone, Copy, Debug)]
 pub(crate) enum Pin {
     PortBit { port: u32, bit: u32 },
@@ -16,6 +16,11 @@ pub(crate) enum Pin {
     GateA(u32),
     GateB(u32),
     GateY(u32),
+    RamQ { object: u32, bit: u32 },
+    RamA { object: u32, bit: u32 },
+    RamD { object: u32, bit: u32 },
+    RamWe(u32),
+    RamC(u32),
 }
 
 /// A pin that reads a net.
@@ -49,6 +54,30 @@ fn push_gate_ref(text: &mut Vec<u8>, port: &[u8], net: u32) -> Result<(), AllocE
     text.extend_from_slice(b"))")
 }
 
+/// Appends how a net names the pin `port` of the RAM of an object.
+#[tactic(auto, using(crate::proofs::Append::appends), unfolding(crate::specs::Edif::pin_ref))]
+fn push_ram_ref(text: &mut Vec<u8>, port: &[u8], object: u32) -> Result<(), AllocError>
+    ensures { OnOk result (text.new.items ≡ text.old.items ++ pin_ref port.now (ram_id object)) }
+{
+    text.extend_from_slice(b"(portRef ")?;
+    text.extend_from_slice(port)?;
+    text.extend_from_slice(b" (instanceRef ")?;
+    push_ram_id(text, object)?;
+    text.extend_from_slice(b"))")
+}
+
+/// Appends how a net names the pin of the RAM of an object that a letter and a number name.
+#[tactic(auto, using(crate::proofs::Append::appends), unfolding(crate::specs::Edif::pin_ref))]
+fn push_bit_ref(text: &mut Vec<u8>, letter: &[u8], bit: u32, object: u32) -> Result<(), AllocError>
+    ensures { OnOk result (text.new.items ≡ text.old.items ++ pin_ref (ram_pin letter.now bit) (ram_id object)) }
+{
+    text.extend_from_slice(b"(portRef ")?;
+    push_ram_pin(text, letter, bit)?;
+    text.extend_from_slice(b" (instanceRef ")?;
+    push_ram_id(text, object)?;
+    text.extend_from_slice(b"))")
+}
+
 /// Appends how a net names a bit of a port.
 #[tactic(auto, using(crate::proofs::Append::appends), unfolding(crate::specs::Edif::port_ref))]
 fn push_port_ref(text: &mut Vec<u8>, port: u32, bit: u32) -> Result<(), AllocError>
@@ -72,6 +101,11 @@ pub(crate) fn push_ref(text: &mut Vec<u8>, pin: Pin) -> Result<(), AllocError>
         Pin::GateA(net) => push_gate_ref(text, b"a", net),
         Pin::GateB(net) => push_gate_ref(text, b"b", net),
         Pin::GateY(net) => push_gate_ref(text, b"y", net),
+        Pin::RamQ { object, bit } => push_bit_ref(text, b"q", bit, object),
+        Pin::RamA { object, bit } => push_bit_ref(text, b"a", bit, object),
+        Pin::RamD { object, bit } => push_bit_ref(text, b"d", bit, object),
+        Pin::RamWe(object) => push_ram_ref(text, b"we", object),
+        Pin::RamC(object) => push_ram_ref(text, b"c", object),
     }
 }
 

@@ -27,8 +27,8 @@ fn input_total(ports: &[Port]) -> u32
     total
 }
 
-/// The net of the first gate.
-pub(crate) fn first_gate(net: &RawNet) -> u32
+/// The first net of the first cell.
+pub(crate) fn first_cell(net: &RawNet) -> u32
     requires { IsValid net.now }
     ensures { result ≡ cell_base net.now }
 {

@@ -2,7 +2,7 @@ use Rattle.std.proofs.Common.{arith}
 use Rattle.hc_run.specs.Pins.{clock_part}
 use Rattle.hc_run.proofs.Numbered.{flat_map_more}
 use Rattle.hc_run.proofs.Sending.{IsSending-more, IsSending-pushed_exit, IsSending-memory}
-use Rattle.hc_run.proofs.edif.nets.send_clock_pins.Goals as goal
+use Rattle.hc_run.proofs.edif.nets.send_flop_clocks.Goals as goal
 
 pub returns-in_err-send-in-Ok-clause-err : goal.returns-in_err-send-in-Ok-clause-err
 returns-in_err-send-in-Ok-clause-err g c =

@@ -2,7 +2,7 @@ use Rattle.std.proofs.Common.{drop}
 use Rattle.std.specs.List.{flat_map}
 use Rattle.hc_run.specs.Pins.{clock_part}
 use Rattle.hc_run.proofs.Sending.{IsSending}
-use Rattle.hc_run.proofs.edif.nets.send_clock_pins.Given as goal
+use Rattle.hc_run.proofs.edif.nets.send_flop_clocks.Given as goal
 
 abbrev pub invariant-loop-flop : goal.invariant-loop-flop
 invariant-loop-flop g l =
