@@ -41,6 +41,19 @@ def test_nothing_is_explained_unasked(programs):
         programs.want(programs.launch(["check", "a.hc"], explain=explain), 1, REFUSED, b"")
 
 
+def test_the_weight_is_said_where_it_is_asked_for(programs):
+    heavy = next(source for title, source, said in cases() if title == "L8: too heavy")
+    endless = 'set clock = external "clk";\nvoid main(void) { while (1) { } }\n'
+    for source, said in ((heavy, b"hcc: the source weighs 2130108\n"), (endless, b"hcc: the source weighs 229\n"), (SOURCE, b"")):
+        programs.put("a.hc", source)
+        refused = programs.end(["check", "a.hc"]).stdout
+        for words in (["check", "a.hc"], ["build", "a.hc", "--edif", "a.edif"]):
+            programs.want(programs.end(words, weight="1"), 1, refused, said)
+    programs.put_first()
+    line = programs.end(["check", "a.hc"]).stdout
+    programs.want(programs.end(["check", "a.hc"], weight="1"), 0, line, b"")
+
+
 def test_a_terminal_is_told(programs):
     programs.put("a.hc", SOURCE)
     screen, terminal = pty.openpty()

@@ -41,11 +41,11 @@ class Programs:
     def put_first(self, name="a.hc"):
         shutil.copyfile(FIRST, self.path(name))
 
-    def end(self, words, program=None, explain=None, **how):
+    def end(self, words, program=None, explain=None, weight=None, **how):
         """Runs the program alone, or another command before its words; answers what it ended with."""
-        environment = {key: value for key, value in os.environ.items() if key != "HCC_EXPLAIN"}
-        if explain is not None:
-            environment["HCC_EXPLAIN"] = explain
+        asked = {"HCC_EXPLAIN": explain, "HCC_WEIGHT": weight}
+        environment = {key: value for key, value in os.environ.items() if key not in asked}
+        environment.update({key: value for key, value in asked.items() if value is not None})
         how = {"stdin": subprocess.DEVNULL, "stdout": subprocess.PIPE, "stderr": subprocess.PIPE, **how}
         command = [*(program or [self.program]), *words]
         try:
