@@ -1,0 +1,5 @@
+pub mod EachEnabled
+pub mod Writing
+pub mod Serves
+pub mod PinSources
+pub mod Driven
