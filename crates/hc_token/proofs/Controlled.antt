@@ -1,9 +1,8 @@
 -- What gates and flip-flops add, as control.
 use Rattle.std.proofs.Common.{◌≡◌, ◌≤◌, ℕ, ◌+◌, List, [], ◌∷◌, ◌++◌, length, set, Bool, false, not, ◌&&◌, ◌||◌, Some, None, refl, ap, sym, ◌∙◌, subst, arith, append_assoc, length-append}
-use Rattle.std.specs.Prelude.{All}
 use Rattle.std.proofs.lemmas.List.{get_or_push, get_or_append_left, set_at, length_push}
-use Rattle.std.proofs.lemmas.List.Elements.{All-nil, All-head, All-tail, All-weaker}
-use Rattle.hc_net.specs.Circuit.{Circuit, History, Does, node_at, flops_of, gates_of, reading, with_node, with_node_at}
+use Rattle.std.proofs.lemmas.List.Elements.{All-nil, All-weaker}
+use Rattle.hc_net.specs.Circuit.{Circuit, History, Does, node_at, reading, with_node, with_node_at}
 use Rattle.hc_net.specs.Made.{Over, argument, IsGate, Adds, Makes}
 use Rattle.hc_net.specs.MadeLemmas.{Adds-most, Adds-then, Adds-there, Adds-over, Adds-extends, Makes-then, Makes-last}
 use Rattle.hc_net.specs.Made as made
@@ -13,6 +12,7 @@ use Rattle.hc_net.specs.declared.node.Node.{Node}
 use Rattle.hc_net.specs.declared.node.Node.TheVariants.{Input, Flop, Wire, Gate, Ram}
 use Rattle.hc_net.specs.declared.gate.GateKind.TheVariants as kind
 use Rattle.hc_token.specs.Control.{IsPart, IsFlop, AddsControl, Controls, tokens_from}
+use Rattle.hc_token.specs.Counting.{gates_most, no_flops}
 use Rattle.hc_token.specs.Circuits.{Acts, Follows, Branches, Repeats}
 use Rattle.hc_token.specs.declared.ends.Ends.{Ends}
 use Rattle.hc_token.proofs.Parts.{All-one, All-two, Makes-over}
@@ -26,28 +26,12 @@ is_part (Wire rank from) g = absurd g
 is_part (Gate k a b) g = tt
 is_part (Ram rank first ram) g = absurd g
 
-pub few_gates : (nodes : List Node) → gates_of nodes ≤ length nodes
-few_gates [] = omega arith
-few_gates (Input p i ∷ nodes) = omega (arith, few_gates nodes)
-few_gates (Flop name init d ∷ nodes) = omega (arith, few_gates nodes)
-few_gates (Wire rank from ∷ nodes) = omega (arith, few_gates nodes)
-few_gates (Gate k a b ∷ nodes) = omega (arith, few_gates nodes)
-few_gates (Ram rank first ram ∷ nodes) = omega (arith, few_gates nodes)
-
-pub no_flops : (gates : List Node) → All IsGate gates → flops_of gates ≡ []
-no_flops [] all = refl
-no_flops (Input p i ∷ gates) all = absurd (All-head IsGate (Input p i) gates all)
-no_flops (Flop name init d ∷ gates) all = absurd (All-head IsGate (Flop name init d) gates all)
-no_flops (Wire rank from ∷ gates) all = absurd (All-head IsGate (Wire rank from) gates all)
-no_flops (Gate k a b ∷ gates) all = no_flops gates (All-tail IsGate (Gate k a b) gates all)
-no_flops (Ram rank first ram ∷ gates) all = absurd (All-head IsGate (Ram rank first ram) gates all)
-
 pub AddsControl-gates : {most : ℕ} {old new : Circuit} (token : ℕ) → Adds most old new → AddsControl most token 0 old new
 AddsControl-gates token a = record {
   added = a.gates;
   nodes = a.nodes;
   parts = All-weaker IsGate IsPart is_part a.gates a.only;
-  gates = let count = few_gates a.gates in let few = a.few in omega arith;
+  gates = let count = gates_most a.gates in let few = a.few in omega arith;
   tokens = no_flops a.gates a.only;
   clock = a.clock;
   ports = a.ports;

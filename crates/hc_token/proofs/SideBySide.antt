@@ -15,37 +15,22 @@ use Rattle.hc_net.specs.Made.{Over, IsGate, Makes}
 use Rattle.hc_net.specs.MadeLemmas.{Over-kept, Over-over, Over-left, Over-self, Adds-longer, Adds-room, Makes-gate, Makes-then, Makes-holds, all_there}
 use Rattle.hc_net.specs.declared.net.FlopName.TheVariants.{Token}
 use Rattle.hc_net.specs.declared.node.Node.{Node}
-use Rattle.hc_net.specs.declared.node.Node.TheVariants.{Input, Flop, Wire, Gate, Ram}
+use Rattle.hc_net.specs.declared.node.Node.TheVariants.{Gate}
 use Rattle.hc_net.specs.declared.gate.GateKind.{GateKind}
 use Rattle.hc_net.specs.declared.gate.GateKind.TheVariants as kind
 use Rattle.hc_token.specs.Control.{IsPart, IsFlop, AddsControl, Controls, AreThere, IsNever, tokens_from}
+use Rattle.hc_token.specs.Counting.{gates_append, flops_append, gates_most, no_flops}
 use Rattle.hc_token.specs.Circuits.{Joins, every, some_and_every, done_from}
 use Rattle.hc_token.specs.Latches.{open_latch, fed_latch, open_latches, fed_latches, with_latches, StandOpen}
 use Rattle.hc_token.specs.Waits.{Waits, done_at}
 use Rattle.hc_token.specs.declared.ends.Ends.{Ends}
 use Rattle.hc_token.specs.declared.waiting.Waiting.{Waiting}
 use Rattle.hc_token.proofs.Constants.{constant_left}
-use Rattle.hc_token.proofs.Controlled.{is_part, few_gates, no_flops, AddsControl-gates}
+use Rattle.hc_token.proofs.Controlled.{is_part, AddsControl-gates}
 use Rattle.hc_token.proofs.LatchNodes.{latch_place, latches_size}
 use Rattle.hc_token.proofs.Parts.{Over-right}
 
 -- ---- nodes that are added
-
-pub flops_of-append : (xs ys : List Node) → flops_of (xs ++ ys) ≡ flops_of xs ++ flops_of ys
-flops_of-append [] ys = refl
-flops_of-append (Input p i ∷ xs) ys = flops_of-append xs ys
-flops_of-append (Flop name init d ∷ xs) ys = ap (λ l. (name, init) ∷ l) (flops_of-append xs ys)
-flops_of-append (Wire rank from ∷ xs) ys = flops_of-append xs ys
-flops_of-append (Gate g a b ∷ xs) ys = flops_of-append xs ys
-flops_of-append (Ram rank first ram ∷ xs) ys = flops_of-append xs ys
-
-pub gates_of-append : (xs ys : List Node) → gates_of (xs ++ ys) ≡ gates_of xs + gates_of ys
-gates_of-append [] ys = omega arith
-gates_of-append (Input p i ∷ xs) ys = gates_of-append xs ys
-gates_of-append (Flop name init d ∷ xs) ys = gates_of-append xs ys
-gates_of-append (Wire rank from ∷ xs) ys = gates_of-append xs ys
-gates_of-append (Gate g a b ∷ xs) ys = omega (arith, gates_of-append xs ys)
-gates_of-append (Ram rank first ram ∷ xs) ys = gates_of-append xs ys
 
 -- latches that are fed
 latches_are_parts : (token : ℕ) (sources is : List ℕ) → All IsPart (map (fed_latch token sources) is)
@@ -276,19 +261,19 @@ module _ (token start pass : ℕ) (branches : List Ends) (passes finishes latche
         parts = All-append IsPart gates (flops ++ back) (All-weaker IsGate IsPart is_part gates passed.adds.only)
             (All-append IsPart flops back (latches_are_parts token w.sources (range_with_len 0 (length latches))) (All-weaker IsGate IsPart is_part back waits.adds.only));
         gates =
-            let whole = gates_of-append gates (flops ++ back) in
-            let part = gates_of-append flops back in
+            let whole = gates_append gates (flops ++ back) in
+            let part = gates_append flops back in
             let none = latches_have_no_gates token w.sources (range_with_len 0 (length latches)) in
-            let a = few_gates gates in
-            let b = few_gates back in
+            let a = gates_most gates in
+            let b = gates_most back in
             let c = passed.adds.few in
             let d = waits.adds.few in
             let size = passes_size in
             omega arith;
         tokens =
-            flops_of-append gates (flops ++ back)
+            flops_append gates (flops ++ back)
             ∙ ap (λ l. l ++ flops_of (flops ++ back)) (no_flops gates passed.adds.only)
-            ∙ flops_of-append flops back
+            ∙ flops_append flops back
             ∙ ap (λ l. flops_of flops ++ l) (no_flops back waits.adds.only)
             ∙ append-nil (flops_of flops)
             ∙ latches_are_tokens token w.sources (range_with_len 0 (length latches))

@@ -1,7 +1,7 @@
 -- What the circuits of control do, clock by clock. A token starts a statement in a clock in which the start holds. The pass
 -- holds in that clock where the statement takes no clock for a token that starts, and the finish where a token that started in
 -- an earlier clock ends. The circuits are this project's own.
-use Rattle.std.specs.Prelude.{◌≡◌, ℕ, suc, List, [], ◌∷◌, map, Bool, true, false, not, ◌&&◌, ◌||◌, Option, Some, slice_get}
+use Rattle.std.specs.Prelude.{◌≡◌, ℕ, suc, List, [], ◌∷◌, map, Bool, true, false, not, ◌&&◌, ◌||◌, Some, slice_get}
 use Rattle.hc_net.specs.Circuit.{History}
 use Rattle.hc_token.specs.declared.ends.Ends.{Ends}
 

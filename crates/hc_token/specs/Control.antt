@@ -1,5 +1,5 @@
 -- What a circuit of control adds to a builder, and what its nets reach.
-use Rattle.std.specs.Prelude.{◌≡◌, ◌<◌, ◌≤◌, ℕ, ◌+◌, List, ◌++◌, map, length, Bool, true, false, Option, Some, None, All}
+use Rattle.std.specs.Prelude.{◌≡◌, ◌<◌, ◌≤◌, ℕ, ◌+◌, List, ◌++◌, map, length, Bool, true, false, Some, None, All}
 use Rattle.std.specs.List.{range_with_len}
 use Rattle.hc_net.specs.Run.{Trace}
 use Rattle.hc_net.specs.Circuit.{Circuit, History, Explains, node_at, constant_at, flops_of, gates_of}

@@ -1,5 +1,5 @@
 -- The flip-flops of latches, before they are fed and after.
-use Rattle.std.specs.Prelude.{◌≡◌, ℕ, ◌+◌, List, ◌++◌, map, length, Bool, false, Some, None, slice_index}
+use Rattle.std.specs.Prelude.{◌≡◌, ℕ, ◌+◌, List, ◌++◌, map, length, false, Some, None, slice_index}
 use Rattle.std.specs.List.{range_with_len}
 use Rattle.hc_net.specs.Circuit.{Circuit}
 use Rattle.hc_net.specs.declared.net.FlopName.TheVariants.{Token}
