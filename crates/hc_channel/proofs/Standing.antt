@@ -1,45 +1,20 @@
 -- The nodes of an end of a channel, in the order in which they are added and fed.
-use Rattle.std.proofs.Common.{◌≡◌, ◌≢◌, ◌<◌, ℕ, suc, ◌+◌, List, [], ◌∷◌, length, Bool, true, false, not, ◌&&◌, ◌||◌, None, refl, ap, sym, ◌∙◌, subst, arith}
-use Rattle.std.proofs.lemmas.List.{get_or_append_left, get_or_push, get_or-set_other, length_push, length-set}
+use Rattle.std.proofs.Common.{◌≡◌, ◌<◌, ℕ, suc, ◌+◌, List, [], ◌∷◌, length, Bool, true, false, not, ◌&&◌, ◌||◌, None, refl, ap, sym, ◌∙◌, subst, arith}
 use Rattle.std.proofs.lemmas.List.Elements.{All-nil, All-cons}
-use Rattle.hc_net.specs.Circuit.{Circuit, Extends, constant_at, node_at, reading, with_node, with_node_at}
+use Rattle.hc_net.specs.Circuit.{Circuit, Extends, constant_at, node_at}
 use Rattle.hc_net.specs.Gate.{differ}
 use Rattle.hc_net.specs.Run.{Trace}
 use Rattle.hc_net.specs.Circuit.{History, Explains}
 use Rattle.hc_net.specs.Made.{Over, argument, Makes}
 use Rattle.hc_net.specs.MadeLemmas.{Makes-gate}
 use Rattle.hc_net.specs.declared.net.FlopName.TheVariants.{Token}
-use Rattle.hc_net.specs.declared.node.Node.{Node}
 use Rattle.hc_net.specs.declared.node.Node.TheVariants.{Flop, Wire, Gate}
 use Rattle.hc_net.specs.declared.gate.GateKind.TheVariants as kind
-use Rattle.hc_token.specs.Control.{IsFlop, IsNever, Reaches}
-use Rattle.hc_token.specs.Part.{AddsPart}
+use Rattle.hc_token.specs.Control.{IsFlop, IsNever}
+use Rattle.hc_token.specs.Growing.{Puts, Feeds, Grows, grows_then, grows_node, grows_connected, put_size, put_at, put_front, fed_size, fed_other, reach_flop, flop_reach}
+use Rattle.hc_token.specs.Part.{AddsPart, part_then, part_gate, part_wire, part_fed, part_token}
 use Rattle.hc_channel.specs.Offers.{MakesOffer, StandsUntilDone, partner_rank}
 use Rattle.hc_channel.specs.declared.end.Offer.{Offer}
-use Rattle.hc_channel.specs.Growing.{Grows, grows_then, grows_node, grows_connected, part_then, part_gate, part_wire, part_fed, part_token}
-
--- what is added: a node at the end, and a net that is its place
-abbrev pub Puts : Node → Circuit → Circuit → ℕ → Type 0
-Puts node old new net = (net ≡ length old.nodes) × (new ≡ with_node old node)
-
--- what is fed: a flip-flop reads this net
-abbrev pub Feeds : ℕ → ℕ → Circuit → Circuit → Type 0
-Feeds net d old new = new ≡ with_node_at old net (reading d (node_at old.nodes net))
-
-put_size : (node : Node) (old : Circuit) {new : Circuit} {net : ℕ} → Puts node old new net → length new.nodes ≡ length old.nodes + 1
-put_size node old p = ap (λ (c : Circuit). length c.nodes) p.1 ∙ length_push old.nodes node
-
-put_at : {node : Node} (old : Circuit) {new : Circuit} {net : ℕ} → Puts node old new net → node_at new.nodes net ≡ node
-put_at {node} old {new} {net} p = ap (λ (c : Circuit). node_at c.nodes net) p.1 ∙ get_or_push old.nodes node _ net (sym p.0)
-
-put_front : (node : Node) (old : Circuit) {new : Circuit} {net : ℕ} (k : ℕ) → Puts node old new net → k < length old.nodes → node_at new.nodes k ≡ node_at old.nodes k
-put_front node old k p low = ap (λ (c : Circuit). node_at c.nodes k) p.1 ∙ get_or_append_left old.nodes (node ∷ []) _ k low
-
-fed_size : (old : Circuit) {new : Circuit} (net d : ℕ) → Feeds net d old new → length new.nodes ≡ length old.nodes
-fed_size old net d fed = ap (λ (c : Circuit). length c.nodes) fed ∙ length-set old.nodes net _
-
-fed_other : (old : Circuit) {new : Circuit} (net d k : ℕ) → Feeds net d old new → k ≢ net → node_at new.nodes k ≡ node_at old.nodes k
-fed_other old net d k fed other = ap (λ (c : Circuit). node_at c.nodes k) fed ∙ get_or-set_other old.nodes net k _ _ other
 
 -- what stands and isn't done
 still_is : (a p : Bool) → differ a (a && p) ≡ (a && not p)
@@ -135,9 +110,6 @@ module _ (token start pass waits active partner done still finish : ℕ) (old on
     finish_is_flop : IsFlop (node_at new.nodes finish)
     finish_is_flop = from_eight.flops finish (subst IsFlop (sym (put_at seven puts_finish)) tt)
 
-    reach_by : (nets : List ℕ) (flop net : ℕ) → IsFlop (node_at new.nodes flop) → Over new.nodes (flop ∷ nets) net → Reaches new.nodes nets net
-    reach_by nets flop net is over = record { own = flop ∷ []; flops = All-cons (λ k. IsFlop (node_at new.nodes k)) flop [] is (All-nil _); over = over }
-
     pub never : IsNever new.nodes pass
     never = from_one.keeps.constant pass false (ap constant_at (put_at old puts_pass))
 
@@ -185,9 +157,9 @@ module _ (token start pass waits active partner done still finish : ℕ) (old on
               (All-cons (λ k. k < length new.nodes) finish [] (omega (arith, puts_finish.0, size_seven, size_new)) (All-nil _)))));
           fresh = omega (arith, puts_partner.0, size_three);
           undriven = undriven;
-          active = reach_by (start ∷ []) waits active waits_is_flop (from_three.keeps.over (waits ∷ start ∷ []) active (active_made.reach 0 0 (omega arith)));
-          done = reach_by (start ∷ partner ∷ []) waits done waits_is_flop (from_five.keeps.over args done (done_made.reach 0 0 (omega arith)));
+          active = reach_flop new.nodes (start ∷ []) waits active waits_is_flop (from_three.keeps.over (waits ∷ start ∷ []) active (active_made.reach 0 0 (omega arith)));
+          done = reach_flop new.nodes (start ∷ partner ∷ []) waits done waits_is_flop (from_five.keeps.over args done (done_made.reach 0 0 (omega arith)));
           pass = from_one.keeps.over [] pass (zero_made.reach 0 0 (omega arith));
-          finish = reach_by [] finish finish finish_is_flop (argument finish 0 (omega arith) refl);
+          finish = flop_reach new.nodes finish finish_is_flop;
           value = stands;
         }

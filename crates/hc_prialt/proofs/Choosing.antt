@@ -1,24 +1,23 @@
 -- The cases of a `prialt`: one that is added, and one more behind others.
-use Rattle.std.proofs.Common.{◌≡◌, ◌<◌, ◌≤◌, ℕ, suc, ◌+◌, List, [], ◌∷◌, ◌++◌, length, take, get_or, Bool, true, false, not, ◌&&◌, None, refl, ap, sym, ◌∙◌, subst, inl, inr, arith, length-append}
+use Rattle.std.proofs.Common.{◌≡◌, ◌<◌, ℕ, suc, ◌+◌, List, [], ◌∷◌, ◌++◌, length, take, get_or, Bool, true, false, not, ◌&&◌, None, refl, ap, sym, ◌∙◌, subst, inl, inr, arith}
 use Rattle.std.specs.Prelude.{All}
 use Rattle.std.proofs.lemmas.List.{get_or_append_left, get_or_push, length_push, take_more}
 use Rattle.std.proofs.lemmas.List.Elements.{All-nil, All-cons, All-push, All-weaker}
 use Rattle.std.proofs.lemmas.Bool.{cases_lt}
 use Rattle.hc_net.specs.Run.{Trace}
-use Rattle.hc_net.specs.Circuit.{Circuit, Extends, History, Explains, node_at, reading, with_node, with_node_at}
+use Rattle.hc_net.specs.Circuit.{Circuit, Extends, History, Explains, node_at}
 use Rattle.hc_net.specs.Gate.{differ}
 use Rattle.hc_net.specs.Made.{Over, argument, Always, Makes}
 use Rattle.hc_net.specs.MadeLemmas.{Over-over, Makes-gate}
 use Rattle.hc_net.specs.declared.net.FlopName.TheVariants.{Token}
-use Rattle.hc_net.specs.declared.node.Node.{Node}
 use Rattle.hc_net.specs.declared.node.Node.TheVariants.{Flop, Gate}
 use Rattle.hc_net.specs.declared.gate.GateKind.TheVariants as kind
 use Rattle.hc_token.specs.Control.{IsFlop}
-use Rattle.hc_token.specs.Part.{AddsPart}
+use Rattle.hc_token.specs.Growing.{Puts, Feeds, Grows, grows_then, grows_node, grows_connected, put_at, put_there}
+use Rattle.hc_token.specs.Part.{grows_part, part_none, part_most, part_then, part_gate, part_token}
 use Rattle.hc_prialt.specs.Picks.{none_ready, first_ready}
 use Rattle.hc_prialt.specs.Cases.{AddsCase, AddsCases}
 use Rattle.hc_prialt.specs.declared.cases.Case.{Case}
-use Rattle.hc_channel.specs.Growing.{Grows, grows_then, grows_node, grows_connected, grows_part, part_none, part_most, part_then, part_gate, part_token}
 
 -- ---- bits
 
@@ -49,26 +48,6 @@ none_more : (v : ℕ → Bool) (ready : List ℕ) (i : ℕ) → i < length ready
 none_more v ready i within = ap (none_ready v) (take_more ready i 0 within) ∙ none_push v (take i ready) (get_or ready i 0)
 
 -- ---- one case
-
--- what is added: a node at the end, and a net that is its place
-abbrev pub Puts : Node → Circuit → Circuit → ℕ → Type 0
-Puts node old new net = (net ≡ length old.nodes) × (new ≡ with_node old node)
-
--- what is fed: a flip-flop reads this net
-abbrev pub Feeds : ℕ → ℕ → Circuit → Circuit → Type 0
-Feeds net d old new = new ≡ with_node_at old net (reading d (node_at old.nodes net))
-
-pub put_at : {node : Node} (old : Circuit) {new : Circuit} {net : ℕ} → Puts node old new net → node_at new.nodes net ≡ node
-put_at {node} old {new} {net} p = ap (λ (c : Circuit). node_at c.nodes net) p.1 ∙ get_or_push old.nodes node _ net (sym p.0)
-
-pub put_there : (node : Node) (old : Circuit) {new : Circuit} {net : ℕ} → Puts node old new net → net < length new.nodes
-put_there node old p = let at = p.0 in omega (arith, ap (λ (c : Circuit). length c.nodes) p.1, length_push old.nodes node)
-
-pub put_longer : (node : Node) (old : Circuit) {new : Circuit} {net : ℕ} → Puts node old new net → length new.nodes ≡ length old.nodes + 1
-put_longer node old p = ap (λ (c : Circuit). length c.nodes) p.1 ∙ length_push old.nodes node
-
-pub put_front : (node : Node) (old : Circuit) {new : Circuit} {net : ℕ} (k : ℕ) → Puts node old new net → k < length old.nodes → node_at new.nodes k ≡ node_at old.nodes k
-put_front node old k p low = ap (λ (c : Circuit). node_at c.nodes k) p.1 ∙ get_or_append_left old.nodes (node ∷ []) _ k low
 
 module _ (token free ready taken rest arm : ℕ) (old one two three new : Circuit)
     (puts_taken : Puts (Gate kind.And free ready) old one taken) (puts_rest : Puts (Gate kind.Xor free taken) one two rest)
@@ -234,13 +213,3 @@ module _ (token next active i free : ℕ) (ready taken more_taken arms more_arms
       unstarted = is_unstarted;
       arm_starts = arm_starts;
     }
-
--- how long the nodes are at most
-pub part_room : {most token count : ℕ} {undriven : List ℕ} {old new : Circuit} → AddsPart most token count undriven old new → length new.nodes ≤ length old.nodes + (most + count)
-part_room {old = old} a = let size = a.size in omega (arith, ap length a.nodes, length-append old.nodes a.added)
-
-pub part_longer : {most token count : ℕ} {undriven : List ℕ} {old new : Circuit} → AddsPart most token count undriven old new → length old.nodes ≤ length new.nodes
-part_longer {old = old} a = omega (arith, ap length a.nodes, length-append old.nodes a.added)
-
-pub part_front : {most token count : ℕ} {undriven : List ℕ} {old new : Circuit} (k : ℕ) → AddsPart most token count undriven old new → k < length old.nodes → node_at new.nodes k ≡ node_at old.nodes k
-part_front {old = old} k a low = ap (λ l. node_at l k) a.nodes ∙ get_or_append_left old.nodes a.added _ k low

@@ -8,30 +8,18 @@ use Rattle.hc_net.specs.Circuit.{Circuit, Extends, History, Explains, IsUnfed, n
 use Rattle.hc_net.specs.Made.{Over, argument, Always, Makes}
 use Rattle.hc_net.specs.MadeLemmas.{Over-over, Makes-gate}
 use Rattle.hc_net.specs.declared.net.FlopName.TheVariants.{Token}
-use Rattle.hc_net.specs.declared.node.Node.{Node}
 use Rattle.hc_net.specs.declared.node.Node.TheVariants.{Flop, Gate}
 use Rattle.hc_net.specs.declared.gate.GateKind.TheVariants as kind
 use Rattle.hc_token.specs.Control.{IsFlop, Reaches}
-use Rattle.hc_token.specs.Part.{AddsPart}
+use Rattle.hc_token.specs.Growing.{Puts, Feeds, Grows, grows_then, grows_node, grows_connected, put_size, put_at, put_there, put_front, reach_over, reach_flop, flop_reach}
+use Rattle.hc_token.specs.Part.{AddsPart, keeps_part, grows_part, part_front, part_most, part_then, part_gate, part_fed}
 use Rattle.hc_prialt.specs.Picks.{none_ready, PicksFirst, MakesPick}
 use Rattle.hc_prialt.specs.Cases.{AddsCases}
 use Rattle.hc_prialt.specs.declared.choice.Pick.{Pick}
-use Rattle.hc_channel.specs.Growing.{Grows, grows_then, grows_node, grows_connected, grows_part, part_most, part_then, part_gate, part_fed}
-use Rattle.hc_prialt.proofs.Choosing.{Puts, Feeds, put_at, put_there, put_longer, put_front, part_longer, part_front}
 
 or_false : (a : Bool) → a ≡ (a || false)
 or_false true = refl
 or_false false = refl
-
--- a net that is over others reaches them, and one that is a flip-flop reaches flip-flops alone
-reach_over : (nodes : List Node) (args : List ℕ) (net : ℕ) → Over nodes args net → Reaches nodes args net
-reach_over nodes args net over = record { own = []; flops = All-nil _; over = over }
-
-reach_flop : (nodes : List Node) (args : List ℕ) (flop net : ℕ) → IsFlop (node_at nodes flop) → Over nodes (flop ∷ args) net → Reaches nodes args net
-reach_flop nodes args flop net is over = record { own = flop ∷ []; flops = All-cons (λ k. IsFlop (node_at nodes k)) flop [] is (All-nil _); over = over }
-
-arm_reach : (nodes : List Node) (net : ℕ) → IsFlop (node_at nodes net) → Reaches nodes [] net
-arm_reach nodes net is = reach_flop nodes [] net net is (argument net 0 (omega arith) refl)
 
 -- where all cases are added, none is ready where no case is
 all_free : (token active free : ℕ) (ready taken arms : List ℕ) (old new : Circuit) → AddsCases token active ready (length ready) old new taken arms free
@@ -56,7 +44,7 @@ picked_default token start free ready taken arms old new there cases =
       active = reach_over new.nodes (start ∷ []) start (argument start 0 (omega arith) refl);
       default_start = reach_over new.nodes (start ∷ ready) free cases.free_over;
       taken = All-weaker (Over new.nodes (start ∷ ready)) (Reaches new.nodes (start ∷ ready)) (reach_over new.nodes (start ∷ ready)) taken cases.taken_over;
-      arm_starts = All-weaker (λ k. IsFlop (node_at new.nodes k)) (Reaches new.nodes []) (arm_reach new.nodes) arms cases.arms_over;
+      arm_starts = All-weaker (λ k. IsFlop (node_at new.nodes k)) (Reaches new.nodes []) (flop_reach new.nodes) arms cases.arms_over;
       value = λ trace h e. record {
         waits = λ t. false;
         first = refl;
@@ -81,10 +69,10 @@ module _ (token first start waits active free never : ℕ) (ready taken arms : L
     waits_low = put_there _ old puts_waits
 
     longer_two : length two.nodes ≡ length one.nodes + 1
-    longer_two = put_longer _ one puts_active
+    longer_two = put_size _ one puts_active
 
     longer_three : length two.nodes ≤ length three.nodes
-    longer_three = part_longer cases.adds
+    longer_three = (keeps_part cases.adds).longer
 
     pub is_unfed : IsUnfed (node_at four.nodes waits)
     is_unfed = subst IsUnfed (sym (
@@ -94,7 +82,7 @@ module _ (token first start waits active free never : ℕ) (ready taken arms : L
         ∙ put_at old puts_waits)) tt
 
     pub free_low : free < length four.nodes
-    free_low = let low = cases.free_there in omega (arith, put_longer _ three puts_never)
+    free_low = let low = cases.free_there in omega (arith, put_size _ three puts_never)
 
 module _ (token first start waits active free never : ℕ) (ready taken arms : List ℕ) (old one two three four new : Circuit)
     (follows : first ≡ token + 1)
@@ -180,6 +168,6 @@ module _ (token first start waits active free never : ℕ) (ready taken arms : L
       active = reach_flop new.nodes (start ∷ []) waits active waits_is_flop (from_two.keeps.over (waits ∷ start ∷ []) active (active_made.reach 0 0 (omega arith)));
       default_start = reach_over new.nodes (start ∷ ready) never (Over-over (All-nil _) (from_four.keeps.over [] never (never_made.reach 0 0 (omega arith))));
       taken = All-weaker (Over three.nodes (active ∷ ready)) (Reaches new.nodes (start ∷ ready)) taken_reach taken cases.taken_over;
-      arm_starts = All-weaker (λ k. IsFlop (node_at three.nodes k)) (Reaches new.nodes []) (λ k is. arm_reach new.nodes k (from_three.flops k is)) arms cases.arms_over;
+      arm_starts = All-weaker (λ k. IsFlop (node_at three.nodes k)) (Reaches new.nodes []) (λ k is. flop_reach new.nodes k (from_three.flops k is)) arms cases.arms_over;
       value = picks;
     }

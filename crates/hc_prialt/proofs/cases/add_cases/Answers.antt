@@ -1,7 +1,8 @@
 -- One case more.
 use Rattle.std.proofs.Common.{ap, refl, arith}
 use Rattle.std.specs.Prelude.{slice_index}
-use Rattle.hc_prialt.proofs.Choosing.{cases_none, cases_more, part_room, part_longer}
+use Rattle.hc_token.specs.Part.{keeps_part, part_room}
+use Rattle.hc_prialt.proofs.Choosing.{cases_none, cases_more}
 use Rattle.hc_prialt.proofs.cases.add_cases.Goals as goal
 
 pub loop-i-init : goal.loop-i-init
@@ -12,7 +13,7 @@ add_case-requires-clause-ready c =
     let within = rw c.len-i-end.ensures at c.loop-i-test.true in
     let at = c.requires.ready c.loop-i.i 0 within in
     let same = ap (λ l. slice_index l c.loop-i.i) c.as_slice.ensures in
-    let longer = part_longer c.loop-i.invariant.adds in
+    let longer = (keeps_part c.loop-i.invariant.adds).longer in
     omega (arith, at, same, longer)
 
 pub add_case-requires-clause-room : goal.add_case-requires-clause-room
