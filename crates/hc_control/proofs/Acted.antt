@@ -16,6 +16,8 @@ use Rattle.hc_meaning.specs.Value.{World}
 use Rattle.hc_net.specs.Circuit.{Circuit}
 use Rattle.hc_net.specs.Seal.{Within}
 use Rattle.hc_net.specs.declared.nets.NoMemory.{NoMemory}
+use Rattle.hc_token.specs.Kept.{there_kept}
+use Rattle.hc_token.specs.Part.{keeps_tokens}
 use Rattle.hc_token.specs.declared.ends.Ends.{Ends}
 use Rattle.hc_value.specs.declared.objects.ObjectNets.{ObjectNets}
 use Rattle.hc_control.specs.Actions.{Acts}
@@ -24,7 +26,7 @@ use Rattle.hc_control.specs.Right.{CanRead, IsRight}
 use Rattle.hc_control.specs.Starts.{selected}
 use Rattle.hc_control.specs.Weighs.{control_weight}
 use Rattle.hc_control.specs.declared.started.Started.{Started}
-use Rattle.hc_control.proofs.Adding.{keeps_tokens, there_kept, never_within, reaches_within, control_none, control_most, control_tokens}
+use Rattle.hc_control.proofs.Adding.{never_within, reaches_within, control_none, control_most, control_tokens}
 use Rattle.hc_control.proofs.LawAction.{follows_act}
 use Rattle.hc_control.proofs.Ordered.{enabled_as, idle_leads, leads_circuit}
 

@@ -1,5 +1,5 @@
 -- The actions of a statement, in text order: those of a sequence are those of its parts, one after the other, and so on.
-use Rattle.std.proofs.Common.{◌≡◌, ◌<◌, ◌≤◌, ℕ, zero, suc, ◌+◌, List, [], ◌∷◌, ◌++◌, map, length, get_or, take, Bool, true, false, Option, Some, None, Result, Ok, Err, OnOk, refl, arith, sym, ap, ◌∙◌, subst, append_assoc, add-one}
+use Rattle.std.proofs.Common.{◌≡◌, ◌<◌, ◌≤◌, ℕ, zero, suc, ◌+◌, List, [], ◌∷◌, ◌++◌, map, length, get_or, take, None, Result, Ok, Err, OnOk, arith, sym, ap, ◌∙◌, subst, append_assoc, add-one}
 use Rattle.std.proofs.lemmas.List.{append-nil}
 use Rattle.hc_core.specs.FirstPlace.{first_of}
 use Rattle.hc_core.specs.Read.{expression, statement, statements, arms}

@@ -17,12 +17,14 @@ use Rattle.hc_core.proofs.Listing.{is_empty, rest_is}
 use Rattle.hc_core.proofs.Read.{read_no_statement}
 use Rattle.hc_meaning.specs.Residual.{residual, Branches, branches_left}
 use Rattle.hc_net.specs.Circuit.{Circuit, History, Explains}
+use Rattle.hc_net.specs.Frame.{Keeps, keeps_same, keeps_then}
 use Rattle.hc_net.specs.MadeLemmas.{Over-within}
 use Rattle.hc_net.specs.Run.{Trace}
 use Rattle.hc_net.specs.Seal.{Within}
 use Rattle.hc_net.specs.declared.node.Node.{Node}
 use Rattle.hc_token.specs.Circuits.{Joins, every, some_and_every, done_from}
 use Rattle.hc_token.specs.Control.{Controls, AreThere, IsNever}
+use Rattle.hc_token.specs.Part.{keeps_tokens}
 use Rattle.hc_token.specs.declared.ends.Ends.{Ends}
 use Rattle.hc_value.specs.declared.objects.ObjectNets.{ObjectNets}
 use Rattle.hc_control.specs.Building.{AddsControl, CanBuild, Builds, IsCircuit, CanBuildEach, AreCircuits, BuildsEach}
@@ -32,7 +34,7 @@ use Rattle.hc_control.specs.Starts.{leaves, leaves_of_branches, selected}
 use Rattle.hc_control.specs.Token.{Clocks}
 use Rattle.hc_control.specs.Weighs.{control_weight, parts_control}
 use Rattle.hc_control.specs.declared.started.Started.{Started}
-use Rattle.hc_control.proofs.Adding.{Keeps, keeps_same, keeps_then, keeps_control, keeps_tokens, circuit_kept, reaches_within, control_none, control_most, control_then, control_tokens, control_room, selected_starts, count_append}
+use Rattle.hc_control.proofs.Adding.{keeps_control, circuit_kept, reaches_within, control_none, control_most, control_then, control_tokens, control_room, selected_starts, count_append}
 use Rattle.hc_control.proofs.LawParallel.{follows_par}
 use Rattle.hc_control.proofs.Ordered.{CanGoOn, first_can, rest_can, enabled_as}
 

@@ -1,5 +1,5 @@
 -- What holds of a statement by itself where its control can be built, and how that goes over to its parts.
-use Rattle.std.proofs.Common.{◌≡◌, ◌<◌, ℕ, ◌+◌, ◌^◌, List, length, Bool, true, false, Option, Some, None, refl}
+use Rattle.std.proofs.Common.{◌≡◌, ◌<◌, ℕ, ◌+◌, ◌^◌, List, length, Bool, true, None}
 use Rattle.hc_tree.specs.declared.place.Place.{Place}
 use Rattle.hc_num.specs.Number.{Number}
 use Rattle.hc_core.specs.FirstPlace.{first_where, first_in_arms}

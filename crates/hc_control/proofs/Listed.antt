@@ -1,10 +1,9 @@
 -- The actions of what is left of a statement are those of the statement: its leaves stand in text order.
-use Rattle.std.proofs.Common.{◌≡◌, ℕ, ◌+◌, List, ◌++◌, map, length, Some, None, refl, sym, ap, ◌∙◌, append_assoc}
+use Rattle.std.proofs.Common.{◌≡◌, ℕ, ◌+◌, List, ◌++◌, map, length, None, refl, sym, ap, ◌∙◌, append_assoc}
 use Rattle.std.proofs.lemmas.List.{append-nil, map-append, length-map}
 use Rattle.hc_core.specs.FirstPlace.{first_of}
 use Rattle.hc_core.specs.Program as p
 use Rattle.hc_core.specs.Program.{Statement, Statements, stop, ◌⨾◌, Arms, no_arm, arm}
-use Rattle.hc_tree.specs.declared.place.Place.{Place}
 use Rattle.hc_meaning.specs.Control.{Leaf}
 use Rattle.hc_meaning.specs.Residual.{Action, Residual, Then, residual, sequence, sequence_behind, branches_left, arms_left}
 use Rattle.hc_control.specs.Built.{is_built_expression, unbuilt_statement, unbuilt_parts, unbuilt_arms}

@@ -9,6 +9,7 @@ use Rattle.hc_meaning.specs.Residual.{residual}
 use Rattle.hc_meaning.specs.Control.{resolved, is_skip}
 use Rattle.hc_meaning.specs.Value.{World, number_of, holds}
 use Rattle.hc_net.specs.Circuit.{Circuit, Explains, Extends, node_at, reading, with_node, with_node_at}
+use Rattle.hc_net.specs.Frame.{Keeps, keeps_then, keeps_gates, keeps_node, keeps_connected, keeps_within}
 use Rattle.hc_net.specs.Run.{Trace}
 use Rattle.hc_net.specs.Made.{Adds, Always}
 use Rattle.hc_net.specs.MadeLemmas.{Over-within, Adds-room}
@@ -17,6 +18,8 @@ use Rattle.hc_net.specs.declared.node.Node.{Node}
 use Rattle.hc_net.specs.declared.node.Node.TheVariants.{Wire}
 use Rattle.hc_token.specs.Circuits.{Repeats}
 use Rattle.hc_token.specs.Control.{Controls, IsNever, IsAlways}
+use Rattle.hc_token.specs.Kept.{always_kept}
+use Rattle.hc_token.specs.Part.{keeps_tokens}
 use Rattle.hc_token.specs.declared.ends.Ends.{Ends}
 use Rattle.hc_value.specs.declared.objects.ObjectNets.{ObjectNets}
 use Rattle.hc_control.specs.Building.{CanBuild, AddsControl, Builds, FollowsAlways, IsCircuit}
@@ -25,7 +28,7 @@ use Rattle.hc_control.specs.Right.{CanRead, IsRight}
 use Rattle.hc_control.specs.Starts.{leaves}
 use Rattle.hc_control.specs.Weighs.{control_weight}
 use Rattle.hc_control.specs.declared.started.Started.{Started}
-use Rattle.hc_control.proofs.Adding.{Keeps, keeps_then, keeps_gates, keeps_control, keeps_tokens, keeps_node, keeps_driven, wire_undriven, control_behind_gates, control_driven, control_joined, control_fit, circuit_kept, reads_kept, reaches_within, always_kept, never_within, never_holds, all_one, all_two}
+use Rattle.hc_control.proofs.Adding.{keeps_control, control_behind_gates, control_driven, control_joined, control_fit, circuit_kept, reads_kept, reaches_within, never_within, never_holds, all_one, all_two}
 use Rattle.hc_control.proofs.Buildable.{IsBuildable, buildable, can_build, while_body, do_body}
 use Rattle.hc_control.proofs.LawLoops.{follows_while, follows_do}
 use Rattle.hc_control.proofs.ZeroStatements.{not_false}
@@ -75,7 +78,7 @@ module _ (turn : Bool → Bool → Bool → Bool) (kinds : List Kind) (at : Obje
   behind_wire = control_behind_gates s.gates s.inner.adds
 
   over_drive : Keeps five.nodes six.nodes
-  over_drive = keeps_driven back _ (wire_undriven one back s.hung.0 s.hung.1 behind_wire) s.driven s.earlier
+  over_drive = keeps_connected back ends_body.finish s.driven s.earlier
 
   from_six : Keeps six.nodes new.nodes
   from_six = keeps_tokens s.join.adds
@@ -99,10 +102,10 @@ module _ (turn : Bool → Bool → Bool → Bool) (kinds : List Kind) (at : Obje
   body_kept = circuit_kept from_five s.inner.circuit
 
   pass_low : Within new.nodes 0 ends.pass
-  pass_low = Over-within (all_one (Within new.nodes 0) net (from_one.within net s.condition.low)) s.join.pass
+  pass_low = Over-within (all_one (Within new.nodes 0) net (keeps_within from_one net s.condition.low)) s.join.pass
 
   finish_low : Within new.nodes 0 ends.finish
-  finish_low = reaches_within (all_two (Within new.nodes 0) ends_body.finish net body_kept.finish (from_one.within net s.condition.low)) s.join.finish
+  finish_low = reaches_within (all_two (Within new.nodes 0) ends_body.finish net body_kept.finish (keeps_within from_one net s.condition.low)) s.join.finish
 
   tests : (trace : Trace) (h : _) → Explains new.nodes trace h → (t : ℕ) (w : World) → IsRight kinds at w (h t) → h t net ≡ holds (number_of w e)
   tests trace h x = s.condition.holds_where trace h (from_one.earlier trace h x)
@@ -117,7 +120,7 @@ module _ (turn : Bool → Bool → Bool → Bool) (kinds : List Kind) (at : Obje
   added : (place : Place) → AddsControl (40 + condition_weight kinds e + control_weight kinds body) before.next (statement_flops body) old new
   added place =
       let round : AddsControl (1 + (2 + control_weight kinds body)) before.next (statement_flops body) one six =
-      control_driven back ends_body.finish s.hung.0 s.hung.1 behind_wire s.driven (over_drive.within ends_body.finish s.inner.circuit.finish) over_drive in
+      control_driven back ends_body.finish s.hung.0 s.hung.1 behind_wire s.driven (keeps_within over_drive ends_body.finish s.inner.circuit.finish) over_drive in
       control_fit (omega arith) refl (control_joined (control_behind_gates s.condition.adds round) s.join.adds)
 
 -- ---- while

@@ -1,5 +1,5 @@
 -- The control of `main`: its token starts it in clock 0 alone.
-use Rattle.std.proofs.Common.{◌≡◌, ◌<◌, ◌≤◌, ℕ, zero, suc, ◌+◌, ◌^◌, List, [], ◌∷◌, ◌++◌, length, map, set, Bool, true, false, if◌then◌else◌, Option, Some, None, append_assoc, length-append, inl, inr, ◌⊎◌, refl, ap, sym, ◌∙◌, subst, arith}
+use Rattle.std.proofs.Common.{◌≡◌, ◌<◌, ◌≤◌, ℕ, zero, suc, ◌+◌, List, [], ◌∷◌, ◌++◌, length, map, set, Bool, true, false, Some, None, append_assoc, inl, inr, ◌⊎◌, refl, ap, sym, ◌∙◌, subst, arith}
 use Rattle.std.specs.Prelude.{All}
 use Rattle.std.proofs.Props.{props}
 use Rattle.std.proofs.lemmas.Bool.{cases_lt}
@@ -10,25 +10,27 @@ use Rattle.hc_core.specs.Typed.{kinds_of}
 use Rattle.hc_core.specs.Weight.{statement_flops}
 use Rattle.hc_core.specs.declared.object.Core.{Core}
 use Rattle.hc_meaning.specs.Clock.{behind_edge}
-use Rattle.hc_meaning.specs.Control.{front, is_skip, resolved, Leaf}
-use Rattle.hc_meaning.specs.Residual.{Residual, Skip, Act, Prialt, PrialtElse, Then, Par, If, While, DoWhile, Switch, residual}
+use Rattle.hc_meaning.specs.Control.{front, resolved, Leaf}
+use Rattle.hc_meaning.specs.Residual.{Residual, Skip, Act, Prialt, PrialtElse, Then, Par, If, While, DoWhile, Switch}
 use Rattle.hc_meaning.specs.Run.{Run, State, first_state, world_of}
 use Rattle.hc_meaning.specs.Value.{Instant, World}
 use Rattle.hc_net.specs.Circuit.{Circuit, History, Explains, Does, node_at, with_node, with_node_at, reading}
+use Rattle.hc_net.specs.Frame.{Keeps, keeps_behind}
 use Rattle.hc_net.specs.Run.{Trace}
 use Rattle.hc_net.specs.declared.net.FlopName.TheVariants.{Token}
 use Rattle.hc_net.specs.declared.node.Node.{Node}
 use Rattle.hc_net.specs.declared.node.Node.TheVariants.{Flop}
-use Rattle.hc_token.specs.Control.{IsNever, tokens_from}
+use Rattle.hc_token.specs.Control.{IsNever, IsPart, tokens_from}
+use Rattle.hc_token.specs.Part.{IsClosed, none_open}
 use Rattle.hc_token.specs.declared.ends.Ends.{Ends}
 use Rattle.hc_value.specs.declared.objects.ObjectNets.{ObjectNets}
-use Rattle.hc_control.specs.Building.{IsControlNode, CanBuild, Builds}
+use Rattle.hc_control.specs.Building.{CanBuild, Builds}
 use Rattle.hc_control.specs.Controlled.{CanControl, AreRight, StandAtFront, StartsMain}
 use Rattle.hc_control.specs.Right.{IsRight}
 use Rattle.hc_control.specs.Starts.{leaves, selected}
-use Rattle.hc_control.specs.Token.{Clocks, current, token_at, held_behind, IsFair, IsFairBefore, Follows}
+use Rattle.hc_control.specs.Token.{Clocks, current, token_at, held_behind, IsFair, IsFairBefore}
 use Rattle.hc_control.specs.declared.started.Started.{Started}
-use Rattle.hc_control.proofs.Adding.{Keeps, keeps_behind, keeps_control, reads_kept, never_holds}
+use Rattle.hc_control.proofs.Adding.{keeps_control, reads_kept, never_holds, ranks_none, ranks_then, all_one}
 
 -- ---- the first token
 
@@ -201,18 +203,21 @@ pub main_starts : (core : Core) (at : ObjectNets) (first : ℕ) (old mid new : C
 main_starts core at first old mid new before after ends can next none has b =
     let kinds = kinds_of core.objects in
     let flop : Node = first_flop at.zero in
-    let nodes : new.nodes ≡ old.nodes ++ (flop ∷ b.adds.added) =
-    b.adds.nodes ∙ ap (λ l. l ++ b.adds.added) has.nodes ∙ append_assoc old.nodes (flop ∷ []) b.adds.added in
+    let part = b.adds.part in
+    let nodes : new.nodes ≡ old.nodes ++ (flop ∷ part.added) =
+    part.nodes ∙ ap (λ l. l ++ part.added) has.nodes ∙ append_assoc old.nodes (flop ∷ []) part.added in
     let starts : after.starts ≡ b.starts = b.put ∙ ap (λ l. l ++ b.starts) none in
     record {
-      added = flop ∷ b.adds.added;
+      added = flop ∷ part.added;
       nodes = nodes;
-      parts = All-cons (IsControlNode new.nodes) flop b.adds.added tt b.adds.parts;
-      size = let size = b.adds.size in omega arith;
-      gates = b.adds.gates;
-      tokens = ap (λ l. (Token 0, true) ∷ l) (b.adds.tokens ∙ ap (λ n. tokens_from n (statement_flops (statement core.main))) next);
-      clock = b.adds.clock ∙ has.clock;
-      ports = b.adds.ports ∙ has.ports;
+      parts = All-cons (IsClosed new.nodes) flop part.added tt (none_open new.nodes (length mid.nodes) part.added part.parts);
+      ranks = ranks_then old.nodes mid.nodes new.nodes part.added part.nodes
+          (ranks_none IsPart (λ rank d is. is) old.nodes (flop ∷ []) mid.nodes has.nodes (all_one IsPart flop tt)) b.adds.ranks;
+      size = let size = part.size in omega arith;
+      gates = part.gates;
+      tokens = ap (λ l. (Token 0, true) ∷ l) (part.tokens ∙ ap (λ n. tokens_from n (statement_flops (statement core.main))) next);
+      clock = part.clock ∙ has.clock;
+      ports = part.ports ∙ has.ports;
       starts_there = subst (λ l. All (λ k. k < length new.nodes) l) (sym starts) b.circuit.starts_there;
       count = ap length starts ∙ b.circuit.count 0;
       front_is = subst (StandAtFront core at new.nodes) (sym starts) (stands_at_front core at at.zero first old mid new before after ends has can.reads.places.zero b);

@@ -1,27 +1,25 @@
 -- The control of a core: the actions of `main`, and the uses of its objects behind the tokens.
-use Rattle.std.proofs.Common.{◌≡◌, ◌<◌, ◌≤◌, ℕ, ◌+◌, ◌^◌, List, [], ◌∷◌, ◌++◌, length, map, refl, ap, sym, ◌∙◌, subst, append_assoc, length-append, arith}
+use Rattle.std.proofs.Common.{◌≡◌, ℕ, List, [], ◌∷◌, ◌++◌, length, map, refl, ap, sym, ◌∙◌, subst, append_assoc, length-append, arith}
 use Rattle.std.specs.Prelude.{All}
-use Rattle.std.specs.List.{sum_by}
 use Rattle.std.proofs.lemmas.List.{length-map, append-nil}
 use Rattle.std.proofs.lemmas.List.Elements.{All-append, All-weaker}
 use Rattle.hc_core.specs.Read.{statement}
 use Rattle.hc_core.specs.Typed.{kinds_of}
 use Rattle.hc_core.specs.declared.object.Core.{Core}
-use Rattle.hc_core.specs.declared.object.Kind.{Kind}
 use Rattle.hc_core.specs.declared.stmt.Stmt.{Stmt}
-use Rattle.hc_meaning.specs.Residual.{Action, residual}
-use Rattle.hc_meaning.specs.Run.{first_state}
-use Rattle.hc_net.specs.Circuit.{Circuit, Explains, flops_of, gates_of}
-use Rattle.hc_net.specs.Made.{Adds, IsGate}
+use Rattle.hc_meaning.specs.Residual.{Action}
+use Rattle.hc_net.specs.Circuit.{Circuit, flops_of}
+use Rattle.hc_net.specs.Frame.{Keeps, keeps_behind, keeps_gates}
 use Rattle.hc_net.specs.MadeLemmas.{Adds-extends}
+use Rattle.hc_token.specs.Counting.{gates_append, flops_append}
+use Rattle.hc_token.specs.Kept.{all_there_kept}
 use Rattle.hc_value.specs.declared.objects.ObjectNets.{ObjectNets}
-use Rattle.hc_control.specs.Building.{IsControlNode, AddsControl}
-use Rattle.hc_control.specs.Controlled.{CanControl, StartsMain, IsControlled, most_control}
+use Rattle.hc_token.specs.Part.{IsClosed, closed_kept, none_open, part_gates}
+use Rattle.hc_control.specs.Controlled.{CanControl, StartsMain, IsControlled}
 use Rattle.hc_control.specs.Listing.{AreActions, IsAction, action_of, actions_in}
-use Rattle.hc_control.specs.Starts.{leaves}
-use Rattle.hc_control.specs.Uses.{IsBuiltAction, MakesUses, action_gates}
+use Rattle.hc_control.specs.Uses.{IsBuiltAction, MakesUses}
 use Rattle.hc_control.specs.declared.uses.ObjectUses.{ObjectUses}
-use Rattle.hc_control.proofs.Adding.{Keeps, keeps_behind, keeps_gates, reads_kept, node_kept, control_gates, gates_append, flops_append, all_there_kept}
+use Rattle.hc_control.proofs.Adding.{ranks_then, control_gates}
 use Rattle.hc_control.proofs.Listed.{listed, listed_count}
 use Rattle.hc_control.proofs.UsesReady.{built_actions}
 
@@ -61,14 +59,15 @@ controlled core at old started new starts actions uses can s are m =
     let kinds = kinds_of core.objects in
     let all : List Action = actions_in (statement core.main) in
     let makes : MakesUses kinds at starts all started new uses = subst (λ (l : List Action). MakesUses kinds at starts l started new uses) are m in
-    let gates = control_gates 0 makes.adds in
+    let gates = part_gates 0 makes.adds in
     let keeps = keeps_gates makes.adds in
     record {
       adds = record {
         added = s.added ++ gates.added;
         nodes = gates.nodes ∙ ap (λ l. l ++ gates.added) s.nodes ∙ append_assoc old.nodes s.added gates.added;
-        parts = All-append (IsControlNode new.nodes) s.added gates.added
-            (All-weaker (IsControlNode started.nodes) (IsControlNode new.nodes) (node_kept keeps) s.added s.parts) gates.parts;
+        parts = All-append (IsClosed new.nodes) s.added gates.added
+            (All-weaker (IsClosed started.nodes) (IsClosed new.nodes) (closed_kept keeps) s.added s.parts) (none_open new.nodes (length started.nodes) gates.added gates.parts);
+        ranks = ranks_then old.nodes started.nodes new.nodes gates.added gates.nodes s.ranks (control_gates 0 makes.adds).ranks;
         size = let a = s.size in let b = gates.size in omega (arith, length-append s.added gates.added);
         gates = let a = s.gates in let b = gates.gates in omega (arith, gates_append s.added gates.added);
         tokens = flops_append s.added gates.added ∙ ap (λ l. flops_of s.added ++ l) gates.tokens ∙ append-nil (flops_of s.added) ∙ s.tokens;

@@ -19,6 +19,7 @@ use Rattle.hc_core.proofs.Read.{read_no_statement}
 use Rattle.hc_meaning.specs.Control.{Leaf, Condition}
 use Rattle.hc_meaning.specs.Residual.{Residual, Skip, Then, residual, sequence, sequence_behind}
 use Rattle.hc_net.specs.Circuit.{Circuit, History, Explains}
+use Rattle.hc_net.specs.Frame.{Keeps, keeps_same, keeps_then, keeps_gates, keeps_within}
 use Rattle.hc_net.specs.Made.{Over, argument, Makes}
 use Rattle.hc_net.specs.MadeLemmas.{Over-over, Over-within, Adds-room, Makes-last, Makes-holds}
 use Rattle.hc_net.specs.Run.{Trace}
@@ -26,6 +27,8 @@ use Rattle.hc_net.specs.Seal.{Within}
 use Rattle.hc_net.specs.declared.node.Node.{Node}
 use Rattle.hc_token.specs.Circuits as circuits
 use Rattle.hc_token.specs.Control.{Controls, IsNever, IsAlways}
+use Rattle.hc_token.specs.Kept.{there_kept, all_there_kept, never_kept}
+use Rattle.hc_token.specs.Part.{keeps_tokens}
 use Rattle.hc_token.specs.declared.ends.Ends.{Ends}
 use Rattle.hc_value.specs.declared.objects.ObjectNets.{ObjectNets}
 use Rattle.hc_control.specs.Building.{AddsControl, CanBuild, Builds, IsCircuit, FollowsAlways}
@@ -35,7 +38,7 @@ use Rattle.hc_control.specs.Starts.{leaves, selected}
 use Rattle.hc_control.specs.Token.{Clocks, Follows}
 use Rattle.hc_control.specs.Weighs.{control_weight, parts_control}
 use Rattle.hc_control.specs.declared.started.Started.{Started}
-use Rattle.hc_control.proofs.Adding.{Keeps, keeps_same, keeps_then, keeps_gates, keeps_control, keeps_tokens, there_kept, all_there_kept, never_kept, reads_kept, reaches_within, never_within, always_within, never_holds, always_holds_true, control_none, control_most, control_then, control_tokens, control_behind_gates, control_room, selected_starts, count_append}
+use Rattle.hc_control.proofs.Adding.{keeps_control, reads_kept, reaches_within, never_within, always_within, never_holds, always_holds_true, control_none, control_most, control_then, control_tokens, control_behind_gates, control_room, selected_starts, count_append, control_number}
 use Rattle.hc_control.proofs.NoneFound.{none_first}
 use Rattle.hc_control.proofs.LawSequence.{follows_then}
 use Rattle.hc_control.proofs.LawSkip.{follows_skip}
@@ -144,8 +147,8 @@ leads_kept {starts = starts} {ends = ends} keeps l = record {
   there = (there_kept keeps ends.pass l.there.0, there_kept keeps ends.finish l.there.1);
   starts_there = all_there_kept keeps starts l.starts_there;
   count = l.count;
-  pass = keeps.within ends.pass l.pass;
-  finish = keeps.within ends.finish l.finish;
+  pass = keeps_within keeps ends.pass l.pass;
+  finish = keeps_within keeps ends.finish l.finish;
   never = λ takes. never_kept keeps ends.pass (l.never takes);
   follows = λ n c trace h e. l.follows n c trace h (keeps.earlier trace h e);
 }
@@ -209,10 +212,6 @@ pub record Ordered (kinds : List Kind) (at : ObjectNets) (all rest : Statements)
   pub can : CanGoOn kinds at 8 rest start after.next new
   pub leads : Leads kinds at (λ n. (left n).0) may_pass start new.nodes starts ends
 
--- tokens that are none have no number
-without_tokens : {most token : ℕ} {old new : Circuit} (number : ℕ) → AddsControl most token 0 old new → AddsControl most number 0 old new
-without_tokens number a = record { added = a.added; nodes = a.nodes; parts = a.parts; size = a.size; gates = a.gates; tokens = a.tokens; clock = a.clock; ports = a.ports }
-
 pub ordered_first : (kinds : List Kind) (at : ObjectNets) (first : Statement) (behind : Statements) (start : ℕ) (old new : Circuit) (before after : Started) (ends : Ends)
     → CanGoOn kinds at 8 (first ⨾ behind) start before.next old → Builds kinds at first start old new before after ends
     → Ordered kinds at (first ⨾ behind) behind start old new before after ends
@@ -253,7 +252,7 @@ module _ (kinds : List Kind) (at : ObjectNets) (all : Statements) (next : Statem
     kept = keeps_then (keeps_gates made.adds) (keeps_then (keeps_control b.adds) (keeps_tokens c.adds))
 
     added : AddsControl (2 + control_weight kinds next + 3) after.next (statement_flops next + 0) front new
-    added = control_then refl (control_behind_gates made.adds b.adds) (without_tokens (after.next + statement_flops next) (control_tokens c.adds))
+    added = control_then refl (control_behind_gates made.adds b.adds) (control_number (after.next + statement_flops next) (control_tokens c.adds))
 
     leads_first : Leads kinds at (λ n. (now.left n).0) now.may_pass start new.nodes now.starts ends
     leads_first = leads_kept kept now.leads

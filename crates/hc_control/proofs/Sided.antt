@@ -8,6 +8,7 @@ use Rattle.hc_core.specs.declared.object.Kind.{Kind}
 use Rattle.hc_meaning.specs.Residual.{residual}
 use Rattle.hc_meaning.specs.Value.{World, number_of, holds}
 use Rattle.hc_net.specs.Circuit.{Circuit, Explains}
+use Rattle.hc_net.specs.Frame.{Keeps, keeps_then, keeps_gates, keeps_within}
 use Rattle.hc_net.specs.Run.{Trace}
 use Rattle.hc_net.specs.Made.{Adds, Always, Makes}
 use Rattle.hc_net.specs.MadeLemmas.{Over-within, Adds-then, Adds-room}
@@ -15,6 +16,8 @@ use Rattle.hc_net.specs.Seal.{Within}
 use Rattle.hc_net.specs.declared.node.Node.{Node}
 use Rattle.hc_token.specs.Circuits.{Branches}
 use Rattle.hc_token.specs.Control.{Controls, IsNever}
+use Rattle.hc_token.specs.Kept.{there_kept, never_kept}
+use Rattle.hc_token.specs.Part.{keeps_tokens}
 use Rattle.hc_token.specs.declared.ends.Ends.{Ends}
 use Rattle.hc_value.specs.declared.objects.ObjectNets.{ObjectNets}
 use Rattle.hc_control.specs.Building.{CanBuild, Builds, FollowsAlways, IsCircuit}
@@ -22,7 +25,7 @@ use Rattle.hc_control.specs.Conditions.{MakesCondition}
 use Rattle.hc_control.specs.Right.{IsRight}
 use Rattle.hc_control.specs.Starts.{leaves}
 use Rattle.hc_control.specs.declared.started.Started.{Started}
-use Rattle.hc_control.proofs.Adding.{Keeps, keeps_then, keeps_gates, keeps_control, keeps_tokens, control_then, control_behind_gates, control_joined, control_room, circuit_kept, there_kept, reaches_within, never_kept, selected_starts, count_append, reads_kept, follows_as, control_fit, all_two, all_three}
+use Rattle.hc_control.proofs.Adding.{keeps_control, control_then, control_behind_gates, control_joined, control_room, circuit_kept, reaches_within, selected_starts, count_append, reads_kept, follows_as, control_fit, all_two, all_three}
 use Rattle.hc_control.proofs.Buildable.{buildable, can_build, if_yes, if_no}
 use Rattle.hc_control.proofs.LawSides.{follows_if}
 use Rattle.hc_control.proofs.ZeroStatements.{neither}
@@ -132,7 +135,7 @@ module _ (kinds : List Kind) (at : ObjectNets) (place : Place) (e : Expression) 
     there = s.join.there;
     starts_there = All-append (λ k. k < length new.nodes) s.first.starts s.second.starts first_kept.starts_there second_kept.starts_there;
     count = count_sides place e a b s.first.starts s.second.starts first_kept.count second_kept.count;
-    pass = Over-within (all_three (Within new.nodes 0) net ends_a.pass ends_b.pass (from_one.within net s.condition.low) first_kept.pass second_kept.pass) s.join.pass;
+    pass = Over-within (all_three (Within new.nodes 0) net ends_a.pass ends_b.pass (keeps_within from_one net s.condition.low) first_kept.pass second_kept.pass) s.join.pass;
     finish = reaches_within (all_two (Within new.nodes 0) ends_a.finish ends_b.finish first_kept.finish second_kept.finish) s.join.finish;
     never = whole_never;
     follows = follow kinds at place e a b start net start_a otherwise start_b new.nodes s.first.starts s.second.starts ends_a ends_b ends

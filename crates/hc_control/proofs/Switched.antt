@@ -21,6 +21,7 @@ use Rattle.hc_meaning.specs.Residual.{residual, arms_left}
 use Rattle.hc_meaning.specs.Control.{chooses, is_chosen}
 use Rattle.hc_net.specs.Bits.{number}
 use Rattle.hc_net.specs.Circuit.{Circuit, Explains}
+use Rattle.hc_net.specs.Frame.{Keeps, keeps_then, keeps_gates, keeps_within}
 use Rattle.hc_net.specs.Run.{Trace}
 use Rattle.hc_net.specs.Made.{Makes}
 use Rattle.hc_net.specs.MadeLemmas.{Over-within, Adds-room, Adds-then}
@@ -28,6 +29,7 @@ use Rattle.hc_net.specs.Seal.{Within}
 use Rattle.hc_core.specs.Rules as rules
 use Rattle.hc_core.specs.Rules.{labels, has_twice, repeats_label}
 use Rattle.hc_bits.specs.Held.{held}
+use Rattle.hc_token.specs.Kept.{there_kept}
 use Rattle.hc_token.specs.declared.ends.Ends.{Ends}
 use Rattle.hc_token.proofs.Parts.{All-one}
 use Rattle.hc_value.specs.Reads.{MakesValue}
@@ -41,7 +43,7 @@ use Rattle.hc_control.specs.Taking.{marked, take_weight, CanTake, FollowTaken, T
 use Rattle.hc_control.specs.Token.{Clocks}
 use Rattle.hc_control.specs.Weighs.{control_weight, arms_control}
 use Rattle.hc_control.specs.declared.started.Started.{Started}
-use Rattle.hc_control.proofs.Adding.{Keeps, keeps_gates, keeps_control, keeps_then, reads_kept, there_kept, never_within, control_most, control_behind_gates}
+use Rattle.hc_control.proofs.Adding.{keeps_control, reads_kept, never_within, control_most, control_behind_gates}
 use Rattle.hc_control.proofs.Buildable.{buildable, switch_test, switch_arms}
 use Rattle.hc_control.proofs.NoneFound.{none_here, unbroken}
 use Rattle.hc_control.proofs.Choosing.{or_assoc, or_parts}
@@ -231,10 +233,10 @@ module _ (kinds : List Kind) (at : ObjectNets) (place : Place) (e : Expression) 
   keeps = keeps_then (keeps_gates so.value.adds) keeps_named
 
   zero_low : Within new.nodes 0 at.zero
-  zero_low = keeps.within at.zero (never_within at.zero can.reads.places.zero)
+  zero_low = keeps_within keeps at.zero (never_within at.zero can.reads.places.zero)
 
   x_low : All (Within new.nodes 0) x
-  x_low = All-weaker (Within one.nodes 0) (Within new.nodes 0) keeps_named.within x (value_low kinds at old one e x can.reads typed (switch_test place e arms (buildable can)) so.value)
+  x_low = All-weaker (Within one.nodes 0) (Within new.nodes 0) (keeps_within keeps_named) x (value_low kinds at old one e x can.reads typed (switch_test place e arms (buildable can)) so.value)
 
   nets_low : All (Within new.nodes 0) nets
   nets_low i d within =

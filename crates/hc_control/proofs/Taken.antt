@@ -15,12 +15,14 @@ use Rattle.hc_core.proofs.Read as reading
 use Rattle.hc_meaning.specs.Residual.{residual, arms_left}
 use Rattle.hc_meaning.specs.Control.{Leaf}
 use Rattle.hc_net.specs.Circuit.{Circuit, Explains}
+use Rattle.hc_net.specs.Frame.{Keeps, keeps_then, keeps_gates, keeps_within}
 use Rattle.hc_net.specs.Run.{Trace}
 use Rattle.hc_net.specs.Made.{Makes}
 use Rattle.hc_net.specs.MadeLemmas.{Over-within, Adds-room}
 use Rattle.hc_net.specs.Seal.{Within}
 use Rattle.hc_net.specs.declared.node.Node.{Node}
 use Rattle.hc_token.specs.Control.{IsNever}
+use Rattle.hc_token.specs.Kept.{there_kept, all_there_kept, never_kept}
 use Rattle.hc_token.specs.declared.ends.Ends.{Ends}
 use Rattle.hc_token.proofs.Parts.{All-two}
 use Rattle.hc_value.specs.declared.objects.ObjectNets.{ObjectNets}
@@ -32,7 +34,7 @@ use Rattle.hc_control.specs.Taking.{marked, take_weight, CanTake, Takes, CanTake
 use Rattle.hc_control.specs.Token.{Clocks}
 use Rattle.hc_control.specs.Weighs.{control_weight}
 use Rattle.hc_control.specs.declared.started.Started.{Started}
-use Rattle.hc_control.proofs.Adding.{Keeps, keeps_gates, keeps_control, keeps_then, circuit_kept, reads_kept, there_kept, all_there_kept, never_kept, never_within, never_holds, control_none, control_most, control_then, control_behind_gates, gates_behind_control, control_room, selected_starts}
+use Rattle.hc_control.proofs.Adding.{keeps_control, circuit_kept, reads_kept, never_within, never_holds, control_none, control_most, control_then, control_behind_gates, gates_behind_control, control_room, selected_starts}
 use Rattle.hc_control.proofs.Buildable.{IsBuildable, ArmsBuildable, first_arm_buildable, rest_arms_buildable}
 use Rattle.hc_control.proofs.Choosing.{or_assoc, or_parts}
 use Rattle.hc_control.proofs.Selectors.{arms_at, arms_past}
@@ -66,7 +68,7 @@ taken_one kinds at s start chosen begin pass body old one two new before after l
     let keeps_body = keeps_control built.adds in
     let keeps_last = keeps_gates last.adds in
     let circuit = circuit_kept keeps_last built.circuit in
-    let chosen_low : Within new.nodes 0 chosen = keeps_last.within chosen (keeps_body.within chosen (keeps_first.within chosen low)) in
+    let chosen_low : Within new.nodes 0 chosen = keeps_within keeps_last chosen (keeps_within keeps_body chosen (keeps_within keeps_first chosen low)) in
     record {
       starts = built.starts;
       put = built.put;
@@ -204,7 +206,7 @@ begins_more P (z ∷ wires) y all here (suc i) x is = begins_more P wires y (λ 
 
 others_kept : {old new : List Node} → Keeps old new → (net : ℕ) (more : List ℕ) → All (λ k. (k < length old) × Within old 0 k) (net ∷ more) → All (λ k. (k < length new) × Within new 0 k) more
 others_kept {old} {new} keeps net more all =
-    All-weaker (λ k. (k < length old) × Within old 0 k) (λ k. (k < length new) × Within new 0 k) (λ k h. (there_kept keeps k h.0, keeps.within k h.1)) more
+    All-weaker (λ k. (k < length old) × Within old 0 k) (λ k. (k < length new) × Within new 0 k) (λ k h. (there_kept keeps k h.0, keeps_within keeps k h.1)) more
     (All-tail (λ k. (k < length old) × Within old 0 k) net more all)
 
 pub takes_more : (kinds : List Kind) (at : ObjectNets) (all behind : Arms) (values : List Number) (other : Bool) (body : Statement) (start net otherwise chosen : ℕ) (nets more : List ℕ) (defaulted : Bool)
@@ -225,8 +227,8 @@ takes_more kinds at all behind values other body start net otherwise chosen nets
     let keeps = keeps_then keeps_two keeps_join in
     let lows : All (Within new.nodes 0) (whole.pass ∷ ends.pass ∷ whole.finish ∷ ends.finish ∷ []) =
     All-append (Within new.nodes 0) (whole.pass ∷ ends.pass ∷ []) (whole.finish ∷ ends.finish ∷ [])
-    (All-two (Within new.nodes 0) whole.pass ends.pass (keeps.within whole.pass so.pass) (keeps_join.within ends.pass taken.pass))
-    (All-two (Within new.nodes 0) whole.finish ends.finish (keeps.within whole.finish so.finish) (keeps_join.within ends.finish taken.finish)) in
+    (All-two (Within new.nodes 0) whole.pass ends.pass (keeps_within keeps whole.pass so.pass) (keeps_within keeps_join ends.pass taken.pass))
+    (All-two (Within new.nodes 0) whole.finish ends.finish (keeps_within keeps whole.finish so.finish) (keeps_within keeps_join ends.finish taken.finish)) in
     record {
       starts = so.starts ++ taken.starts;
       most = so.most + (5 + control_weight kinds body);
@@ -240,7 +242,7 @@ takes_more kinds at all behind values other body start net otherwise chosen nets
       reads = reads_kept keeps so.reads;
       start_there = there_kept keeps start so.start_there;
       nets_there = others_kept keeps net more so.nets_there;
-      otherwise_there = (there_kept keeps otherwise so.otherwise_there.0, keeps.within otherwise so.otherwise_there.1);
+      otherwise_there = (there_kept keeps otherwise so.otherwise_there.0, keeps_within keeps otherwise so.otherwise_there.1);
       room = let room = so.room in omega (arith, Adds-room selects.adds, control_room taken.adds, Adds-room joins.adds);
       numbers = let numbers = so.numbers in let n = taken.next in omega arith;
       put = taken.put ∙ ap (λ l. l ++ taken.starts) so.put ∙ append_assoc before.starts so.starts taken.starts;
@@ -315,7 +317,7 @@ next_can kinds at all behind values other body start net otherwise chosen nets m
       there = there_kept keeps start so.start_there;
       chosen_there = (
         selects.there 0 0 (omega arith),
-        Over-within (All-two (Within one.nodes 0) net otherwise (keeps.within net net_there.1) (keeps.within otherwise so.otherwise_there.1)) (selects.reach 0 0 (omega arith)),
+        Over-within (All-two (Within one.nodes 0) net otherwise (keeps_within keeps net net_there.1) (keeps_within keeps otherwise so.otherwise_there.1)) (selects.reach 0 0 (omega arith)),
       );
       typed = is.typed;
       built = is.built;
@@ -379,8 +381,8 @@ takes_otherwise kinds at all start otherwise pass nets others old now new before
       there = (joins.there 0 0 (omega arith), there_kept keeps ends.finish so.there.1);
       starts_there = all_there_kept keeps so.starts so.starts_there;
       count = λ n. so.count n ∙ sym (ap length (so.leaves_are n ∙ append-nil (so.front n)));
-      pass = Over-within (All-two (Within new.nodes 0) ends.pass otherwise (keeps.within ends.pass so.pass) (keeps.within otherwise so.otherwise_there.1)) (joins.reach 0 0 (omega arith));
-      finish = keeps.within ends.finish so.finish;
+      pass = Over-within (All-two (Within new.nodes 0) ends.pass otherwise (keeps_within keeps ends.pass so.pass) (keeps_within keeps otherwise so.otherwise_there.1)) (joins.reach 0 0 (omega arith));
+      finish = keeps_within keeps ends.finish so.finish;
       never = λ none has. let e : false ≡ true = so.defaults ∙ has in absurd cc;
       follows = λ n c trace h e. let f = so.follows n c trace h (keeps.earlier trace h e) in record {
         wires = f.wires;

@@ -13,16 +13,18 @@ use Rattle.hc_core.proofs.Bounds.{narrow}
 use Rattle.hc_core.proofs.Types.{widths_are}
 use Rattle.hc_meaning.specs.Value.{World, number_of}
 use Rattle.hc_net.specs.Circuit.{Circuit}
+use Rattle.hc_net.specs.Frame.{keeps_gates}
 use Rattle.hc_net.specs.Made.{Makes}
 use Rattle.hc_net.specs.MadeLemmas.{Adds-none, Adds-most, Adds-then, Over-within, Adds-extends}
 use Rattle.hc_net.specs.Seal.{Within}
 use Rattle.hc_bits.specs.Held.{held}
+use Rattle.hc_token.specs.Kept.{all_within_kept}
 use Rattle.hc_value.specs.Reads.{reached, read_nets, Holds, MakesValue}
 use Rattle.hc_value.specs.declared.objects.ObjectNets.{ObjectNets}
 use Rattle.hc_control.specs.Built.{is_built_expression}
 use Rattle.hc_control.specs.Conditions.{CanTest, MakesCondition}
 use Rattle.hc_control.specs.Right.{CanRead, IsRight}
-use Rattle.hc_control.proofs.Adding.{keeps_gates, all_within_kept, never_within, always_within}
+use Rattle.hc_control.proofs.Adding.{never_within, always_within}
 use Rattle.hc_control.proofs.ReadsNets.{reads, reads_all}
 
 -- ---- nets that reach no placeholder

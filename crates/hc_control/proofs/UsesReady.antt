@@ -1,6 +1,6 @@
 -- The actions of a statement of built forms are built, and their gates are the part of the statement's weight that its control
 -- leaves.
-use Rattle.std.proofs.Common.{◌≡◌, ◌≤◌, ℕ, ◌+◌, ◌*◌, List, [], Bool, true, false, Some, None, refl, arith}
+use Rattle.std.proofs.Common.{◌≡◌, ◌≤◌, ℕ, ◌+◌, ◌*◌, List, [], Bool, None, arith}
 use Rattle.std.specs.Prelude.{◌&&◌, All}
 use Rattle.std.specs.List.{sum_by}
 use Rattle.std.proofs.lemmas.Bool.{and_parts}
@@ -13,7 +13,6 @@ use Rattle.hc_core.specs.Sound.{IsTyped, AllTyped, ArmsTyped}
 use Rattle.hc_core.specs.Typed.{width_of}
 use Rattle.hc_core.specs.Weight.{statement_weight, list_weight, arms_weight, target_weight}
 use Rattle.hc_core.specs.declared.object.Kind.{Kind}
-use Rattle.hc_tree.specs.declared.place.Place.{Place}
 use Rattle.hc_meaning.specs.Residual.{Assign, Delay}
 use Rattle.hc_control.specs.Built.{is_built_target, is_built_expression, unbuilt_statement, unbuilt_parts, unbuilt_arms}
 use Rattle.hc_control.specs.Listing.{actions_in, actions_in_all, actions_in_arms}

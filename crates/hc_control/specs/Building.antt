@@ -1,5 +1,5 @@
 -- What the control of a statement adds to a circuit, and what its nets do.
-use Rattle.std.specs.Prelude.{◌≡◌, ◌<◌, ◌≤◌, ℕ, ◌+◌, ◌^◌, List, [], ◌∷◌, ◌++◌, length, map, false, Some, None, All}
+use Rattle.std.specs.Prelude.{◌≡◌, ◌<◌, ◌≤◌, ℕ, ◌+◌, ◌^◌, List, [], ◌∷◌, ◌++◌, length, map, false, Option, None, All}
 use Rattle.std.specs.List.{concat}
 use Rattle.hc_core.specs.FirstPlace.{first_where, first_in}
 use Rattle.hc_core.specs.Rules.{endless, repeats_label}
@@ -10,12 +10,13 @@ use Rattle.hc_core.specs.Zero.{zero}
 use Rattle.hc_core.specs.declared.object.Kind.{Kind}
 use Rattle.hc_meaning.specs.Control.{Condition}
 use Rattle.hc_meaning.specs.Residual.{Residual, residual}
-use Rattle.hc_net.specs.Circuit.{Circuit, Explains, flops_of, gates_of}
+use Rattle.hc_net.specs.Circuit.{Circuit, Explains, node_at}
 use Rattle.hc_net.specs.Run.{Trace}
 use Rattle.hc_net.specs.Seal.{Within}
 use Rattle.hc_net.specs.declared.node.Node.{Node}
-use Rattle.hc_net.specs.declared.node.Node.TheVariants.{Input, Flop, Wire, Gate, Ram}
-use Rattle.hc_token.specs.Control.{IsNever, tokens_from}
+use Rattle.hc_net.specs.declared.node.Node.TheVariants.{Wire}
+use Rattle.hc_token.specs.Control.{IsNever}
+use Rattle.hc_token.specs.Part.{AddsPart}
 use Rattle.hc_token.specs.declared.ends.Ends.{Ends}
 use Rattle.hc_value.specs.declared.objects.ObjectNets.{ObjectNets}
 use Rattle.hc_control.specs.Built.{unbuilt_statement, unbuilt_parts}
@@ -25,26 +26,15 @@ use Rattle.hc_control.specs.Token.{Clocks, Follows}
 use Rattle.hc_control.specs.Weighs.{control_weight, parts_control}
 use Rattle.hc_control.specs.declared.started.Started.{Started}
 
--- a gate, a flip-flop that is fed, or a placeholder of rank 0 that is driven by what reaches no placeholder
-abbrev pub IsControlNode : List Node → Node → Type 0
-IsControlNode nodes (Input p i) = ⊥
-IsControlNode nodes (Flop name init None) = ⊥
-IsControlNode nodes (Flop name init (Some d)) = Unit {0}
-IsControlNode nodes (Wire rank None) = ⊥
-IsControlNode nodes (Wire rank (Some d)) = (rank ≡ 0) × Within nodes 0 d
-IsControlNode nodes (Gate g a b) = Unit {0}
-IsControlNode nodes (Ram rank first ram) = ⊥
+-- the placeholders behind the old nodes have rank 0
+abbrev pub HaveRankZero : List Node → List Node → Type 0
+HaveRankZero old new = (k rank : ℕ) (from : Option ℕ) → length old ≤ k → node_at new k ≡ Wire rank from → rank ≡ 0
 
--- Control was added: at most so many gates and placeholders, and so many tokens from this number on.
+-- Control was added: at most so many gates and placeholders, all of which are driven and have rank 0, and so many tokens from this
+-- number on.
 pub record AddsControl (most token count : ℕ) (old new : Circuit) : Type 0 where
-  pub added : List Node
-  pub nodes : new.nodes ≡ old.nodes ++ added
-  pub parts : All (IsControlNode new.nodes) added
-  pub size : length added ≤ most + count
-  pub gates : gates_of added ≤ most
-  pub tokens : flops_of added ≡ tokens_from token count
-  pub clock : new.clock ≡ old.clock
-  pub ports : new.ports ≡ old.ports
+  pub part : AddsPart most token count [] old new
+  pub ranks : HaveRankZero old.nodes new.nodes
 
 -- What it takes to build the control of a statement: it is sound and of built forms, no loop in it is endless and no label
 -- stands twice, and there is room.

@@ -16,8 +16,9 @@ use Rattle.hc_net.specs.Run.{Trace}
 use Rattle.hc_net.specs.declared.net.FlopName.TheVariants.{Token}
 use Rattle.hc_net.specs.declared.node.Node.{Node}
 use Rattle.hc_token.specs.Control.{tokens_from}
+use Rattle.hc_token.specs.Part.{IsClosed}
 use Rattle.hc_value.specs.declared.objects.ObjectNets.{ObjectNets}
-use Rattle.hc_control.specs.Building.{IsControlNode}
+use Rattle.hc_control.specs.Building.{HaveRankZero}
 use Rattle.hc_control.specs.Built.{unbuilt_statement}
 use Rattle.hc_control.specs.Listing.{leaf_action, actions_in}
 use Rattle.hc_control.specs.Right.{CanRead, IsRight}
@@ -40,12 +41,13 @@ pub record CanControl (core : Core) (at : ObjectNets) (c : Circuit) : Type 0 whe
   pub labels : first_where repeats_label (statement core.main) ≡ None
   pub room : length c.nodes + (1 + statement_flops (statement core.main) + most_control core) < 2 ^ 32
 
--- Control was added, and nothing else: gates, placeholders that are driven, and the flip-flops of tokens, of which the first holds
--- in clock 0 alone.
+-- Control was added, and nothing else: gates, placeholders of rank 0 that are driven, and the flip-flops of tokens, of which the
+-- first holds in clock 0 alone.
 pub record AddsTokens (core : Core) (old new : Circuit) : Type 0 where
   pub added : List Node
   pub nodes : new.nodes ≡ old.nodes ++ added
-  pub parts : All (IsControlNode new.nodes) added
+  pub parts : All (IsClosed new.nodes) added
+  pub ranks : HaveRankZero old.nodes new.nodes
   pub size : length added ≤ 1 + statement_flops (statement core.main) + most_control core
   pub gates : gates_of added ≤ most_control core
   pub tokens : flops_of added ≡ (Token 0, true) ∷ tokens_from 1 (statement_flops (statement core.main))
@@ -69,7 +71,8 @@ StandAtFront core at nodes starts =
 pub record StartsMain (core : Core) (at : ObjectNets) (old new : Circuit) (starts : List ℕ) : Type 0 where
   pub added : List Node
   pub nodes : new.nodes ≡ old.nodes ++ added
-  pub parts : All (IsControlNode new.nodes) added
+  pub parts : All (IsClosed new.nodes) added
+  pub ranks : HaveRankZero old.nodes new.nodes
   pub size : length added ≤ 1 + statement_flops (statement core.main) + control_weight (kinds_of core.objects) (statement core.main)
   pub gates : gates_of added ≤ control_weight (kinds_of core.objects) (statement core.main)
   pub tokens : flops_of added ≡ (Token 0, true) ∷ tokens_from 1 (statement_flops (statement core.main))

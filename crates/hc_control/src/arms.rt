@@ -1,4 +1,4 @@
-ghost use Rattle.std.specs.Prelude.{◌≡◌, ◌<◌, ◌≤◌, ◌+◌, ◌^◌, ◌∷◌, [], ◌||◌, ◌&&◌, length, All, IfOk, if◌then◌else◌};
+ghost use Rattle.std.specs.Prelude.{◌≡◌, ◌<◌, ◌≤◌, ◌⊎◌, ◌+◌, ◌^◌, ◌∷◌, [], ◌||◌, ◌&&◌, length, All, IfOk, if◌then◌else◌};
 ghost use Rattle.std.specs.List.{list_any};
 ghost use Rattle.hc_core.specs.Program.{Switch};
 ghost use Rattle.hc_core.specs.Read.{expression, statement as read, arms as read_arms};
@@ -132,7 +132,7 @@ fn take_one(
     })
 }
 
-/// The ends of two arms of which one is taken.
+/// The ends of two arms of which one is taken. Where one of both nets is the constant 0 the other stands, and is reached alone.
 fn either(b: &mut Builder, first: Ends, second: Ends) -> Result<Ends, NoMemory>
     requires first { AreThere b.old first }
     requires second { AreThere b.old second }
@@ -140,6 +140,10 @@ fn either(b: &mut Builder, first: Ends, second: Ends) -> Result<Ends, NoMemory>
     ensures circuit { IfOk result (λ ends. Makes 2 (first.pass ∷ second.pass ∷ first.finish ∷ second.finish ∷ []) b.old b.new (ends.pass ∷ ends.finish ∷ [])
         (λ v. (v ends.pass ≡ (v first.pass || v second.pass)) × (v ends.finish ≡ (v first.finish || v second.finish)))) }
     ensures never { IfOk result (λ ends. IsNever b.old.nodes first.pass → IsNever b.old.nodes second.pass → IsNever b.new.nodes ends.pass) }
+    ensures first_pass { IfOk result (λ ends. IsNever b.old.nodes second.pass → ends.pass ≡ first.pass) }
+    ensures second_pass { IfOk result (λ ends. IsNever b.old.nodes first.pass → (ends.pass ≡ second.pass) ⊎ IsNever b.new.nodes second.pass) }
+    ensures first_finish { IfOk result (λ ends. IsNever b.old.nodes second.finish → ends.finish ≡ first.finish) }
+    ensures second_finish { IfOk result (λ ends. IsNever b.old.nodes first.finish → (ends.finish ≡ second.finish) ⊎ IsNever b.new.nodes second.finish) }
 {
     let pass = or(b, first.pass, second.pass)?;
     let finish = or(b, first.finish, second.finish)?;

@@ -5,7 +5,7 @@ ghost use Rattle.hc_core.specs.Typed.{kinds_of};
 ghost use Rattle.hc_control.specs.Building.{CanBuild, Builds};
 ghost use Rattle.std.specs.Prelude.{◌<◌, ◌+◌, ◌^◌, ◌∷◌, [], ◌≡◌, ◌&&◌, ◌||◌, length};
 ghost use Rattle.hc_net.specs.Made.{Makes};
-ghost use Rattle.hc_token.specs.Control.{AreThere};
+ghost use Rattle.hc_token.specs.Control.{AreThere, IsNever};
 
 use crate::actions::idle;
 use crate::started::Started;
@@ -46,12 +46,14 @@ pub(crate) fn sequence(
     }
 }
 
-/// The start of what stands behind a statement: it holds where the statement finishes, and where it starts and passes.
+/// The start of what stands behind a statement: it holds where the statement finishes, and where it starts and passes. Behind a
+/// statement that always takes a clock it is the net of the finish, and so reaches no more than that.
 fn start_behind(b: &mut Builder, start: u32, ends: Ends) -> Result<u32, NoMemory>
     requires start { start < length b.old.nodes }
     requires ends { AreThere b.old ends }
     requires room { length b.old.nodes + 2 < 2 ^ 32 }
-    ensures { IfOk result (λ z. Makes 2 (ends.finish ∷ start ∷ ends.pass ∷ []) b.old b.new (z ∷ []) (λ v. v z ≡ (v ends.finish || (v start && v ends.pass)))) }
+    ensures circuit { IfOk result (λ z. Makes 2 (ends.finish ∷ start ∷ ends.pass ∷ []) b.old b.new (z ∷ []) (λ v. v z ≡ (v ends.finish || (v start && v ends.pass)))) }
+    ensures reach { IfOk result (λ z. IsNever b.old.nodes ends.pass → z ≡ ends.finish) }
 {
     let through = and(b, start, ends.pass)?;
     or(b, ends.finish, through)

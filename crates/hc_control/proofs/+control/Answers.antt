@@ -36,21 +36,21 @@ sequence::sequence-loop-rest-init t c =
 pub sequence::sequence-statement-requires-in-len1-up-rest : goal.sequence::sequence-statement-requires-in-len1-up-rest
 sequence::sequence-statement-requires-in-len1-up-rest t c =
     let is = uncons c.loop-rest.rest.now c.next-item.result c.in-len1-up-rest.len_at_least c.next-item.is in
-    let fewer = step_fewer _ _ _ c.loop-rest.rest.now _ c.next-item.result c.args.start c.in_ok-start_next-in-len1-up.start_next _ c.loop-rest.b c.start_behind.new.b _ c.loop-rest.started c.loop-rest.ends is c.loop-rest.invariant c.in_ok-start_next-in-len1-up.ensures in (
+    let fewer = step_fewer _ _ _ c.loop-rest.rest.now _ c.next-item.result c.args.start c.in_ok-start_next-in-len1-up.start_next _ c.loop-rest.b c.start_behind.new.b _ c.loop-rest.started c.loop-rest.ends is c.loop-rest.invariant c.in_ok-start_next-in-len1-up.ensures.circuit in (
       search rules,
-      step_can _ _ _ c.loop-rest.rest.now _ c.next-item.result c.args.start c.in_ok-start_next-in-len1-up.start_next _ c.loop-rest.b c.start_behind.new.b _ c.loop-rest.started c.loop-rest.ends is c.loop-rest.invariant c.in_ok-start_next-in-len1-up.ensures,
+      step_can _ _ _ c.loop-rest.rest.now _ c.next-item.result c.args.start c.in_ok-start_next-in-len1-up.start_next _ c.loop-rest.b c.start_behind.new.b _ c.loop-rest.started c.loop-rest.ends is c.loop-rest.invariant c.in_ok-start_next-in-len1-up.ensures.circuit,
     )
 
 pub sequence::sequence-follow-requires-clause-room : goal.sequence::sequence-follow-requires-clause-room
 sequence::sequence-follow-requires-clause-room t c =
     let is = uncons c.loop-rest.rest.now c.next-item.result c.in-len1-up-rest.len_at_least c.next-item.is in
-    step_room _ _ _ c.loop-rest.rest.now _ c.next-item.result c.args.start c.in_ok-start_next-in-len1-up.start_next _ c.loop-rest.b c.start_behind.new.b _ c.loop-rest.started c.loop-rest.ends is c.loop-rest.invariant c.in_ok-start_next-in-len1-up.ensures
+    step_room _ _ _ c.loop-rest.rest.now _ c.next-item.result c.args.start c.in_ok-start_next-in-len1-up.start_next _ c.loop-rest.b c.start_behind.new.b _ c.loop-rest.started c.loop-rest.ends is c.loop-rest.invariant c.in_ok-start_next-in-len1-up.ensures.circuit
     c.statement-in-len1-up-rest.new.b c.statement-in-len1-up-rest.new.started c.in_ok-next_ends-in-len1-up.next_ends c.in_ok-next_ends-in-len1-up.ensures
 
 pub sequence::sequence-loop-rest-preserved : goal.sequence::sequence-loop-rest-preserved
 sequence::sequence-loop-rest-preserved t c =
     let is = uncons c.loop-rest.rest.now c.next-item.result c.in-len1-up-rest.len_at_least c.next-item.is in
-    step_ordered _ _ _ c.loop-rest.rest.now _ c.next-item.result c.args.start c.in_ok-start_next-in-len1-up.start_next _ c.loop-rest.b c.start_behind.new.b _ c.loop-rest.started c.loop-rest.ends is c.loop-rest.invariant c.in_ok-start_next-in-len1-up.ensures
+    step_ordered _ _ _ c.loop-rest.rest.now _ c.next-item.result c.args.start c.in_ok-start_next-in-len1-up.start_next _ c.loop-rest.b c.start_behind.new.b _ c.loop-rest.started c.loop-rest.ends is c.loop-rest.invariant c.in_ok-start_next-in-len1-up.ensures.circuit
     c.statement-in-len1-up-rest.new.b c.statement-in-len1-up-rest.new.started c.in_ok-next_ends-in-len1-up.next_ends c.in_ok-next_ends-in-len1-up.ensures
     c.follow.new.b c.in_ok-ends-in-len1-up-2.ends c.in_ok-ends-in-len1-up-2.ensures.circuit c.in_ok-ends-in-len1-up-2.ensures.never
 

@@ -1,6 +1,5 @@
 use Rattle.std.proofs.Common.{◌∙◌, sym}
 use Rattle.std.proofs.lemmas.Result.{IfOk-weaker}
-use Rattle.hc_core.specs.declared.stmt.Stmt.{Stmt}
 use Rattle.hc_control.proofs.MainUses.{listed_actions, listed_size, starts_count, uses_built, controlled}
 use Rattle.hc_control.proofs.tokens.control.Goals as goal
 
