@@ -13,6 +13,7 @@ use Rattle.hc_core.specs.declared.object.Object.{Object}
 use Rattle.hc_meaning.specs.Value.{padded, is_input}
 use Rattle.hc_net.specs.Bits.{bit}
 use Rattle.hc_net.specs.Circuit.{Circuit, Extends, IsUnfed, IsUndriven, node_at, reading, with_node_at}
+use Rattle.hc_net.specs.Frame.{Keeps, keeps_connected, keeps_same, keeps_then}
 use Rattle.hc_net.specs.declared.net.FlopName.TheVariants.{Bit}
 use Rattle.hc_net.specs.declared.node.Node.{Node}
 use Rattle.hc_net.specs.declared.node.Node.TheVariants.{Input, Flop, Wire, Gate, Ram}
@@ -49,6 +50,17 @@ reads_next n nets from old now can r inside = r.others (slice_index nets n) (λ 
 pub reads_size : (n : ℕ) (nets from : List ℕ) (old now : Circuit) → ReadsFirst n nets from old now → length now.nodes ≡ length old.nodes
 reads_size n nets from old now r = same_size old.nodes now.nodes r.bare
 
+-- no net yet
+pub reads_none : (nets from : List ℕ) (c : Circuit) → ReadsFirst 0 nets from c c
+reads_none nets from c = record {
+  clock = refl;
+  ports = refl;
+  read = λ i low. absurd (omega (arith, low));
+  others = λ j other. refl;
+  bare = refl;
+  keeps = keeps_same c.nodes;
+}
+
 -- one net more
 pub reads_more : (n net d : ℕ) (nets from : List ℕ) (old now new : Circuit) → CanRead nets from old → ReadsFirst n nets from old now → n < length from
     → net ≡ slice_index nets n → d ≡ slice_index from n
@@ -75,7 +87,7 @@ reads_more n net d nets from old now new can r inside net_is d_is is earlier =
       others = λ j other.
           ap (λ l. node_at l j) nodes ∙ get_or-set_other now.nodes net j _ _ (λ e. other n (omega arith) (sym (e ∙ net_is))) ∙ r.others j (λ i low. other i (omega arith));
       bare = ap (map bare) nodes ∙ map_bare now.nodes net d ∙ r.bare;
-      earlier = λ trace h e. r.earlier trace h (earlier trace h e);
+      keeps = keeps_then r.keeps (keeps_connected net d is earlier);
     }
 
 -- ---- where an object stands
@@ -299,7 +311,19 @@ pub record ConnectsFirst (k : ℕ) (kinds : List Kind) (at : ObjectNets) (source
   pub later : (j : ℕ) → total (take k kinds) ≤ j → node_at new.nodes j ≡ node_at old.nodes j
   pub kept : (j : ℕ) → is_open (node_at old.nodes j) ≡ false → node_at new.nodes j ≡ node_at old.nodes j
   pub bare : map bare new.nodes ≡ map bare old.nodes
-  pub earlier : Extends old.nodes new.nodes
+  pub keeps : Keeps old.nodes new.nodes
+
+-- no object yet
+pub connects_none : (kinds : List Kind) (at : ObjectNets) (sources : List (List ℕ)) (c : Circuit) → ConnectsFirst 0 kinds at sources c c
+connects_none kinds at sources c = record {
+  clock = refl;
+  ports = refl;
+  read = λ n i low inside. absurd (omega (arith, low));
+  later = λ j past. refl;
+  kept = λ j shut. refl;
+  bare = refl;
+  keeps = keeps_same c.nodes;
+}
 
 -- an object that is there has a kind
 kind_of : (kinds : List Kind) (k : ℕ) → k < length kinds → (kind : Kind) × (slice_get kinds k ≡ Some kind)
@@ -375,7 +399,7 @@ connects_next kinds at sources old now new k kind can c there r =
       later = λ j high. r.others j (λ i low. let a = o.net i (omega arith) in λ e. omega arith) ∙ c.later j (omega arith);
       kept = λ j shut. r.others j (λ i low e. closed i low (subst (λ (m : ℕ). is_open (node_at old.nodes m) ≡ false) (sym e) shut)) ∙ c.kept j shut;
       bare = r.bare ∙ c.bare;
-      earlier = λ trace h e. c.earlier trace h (r.earlier trace h e);
+      keeps = keeps_then c.keeps r.keeps;
     }
   where
     own : ObjectAt kinds at sources old k kind

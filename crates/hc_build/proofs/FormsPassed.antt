@@ -1,5 +1,5 @@
 -- The first form that isn't built, as the loops over lists find it: what was passed is built.
-use Rattle.std.proofs.Common.{◌≡◌, ℕ, ◌+◌, ◌<◌, ◌≤◌, List, [], ◌∷◌, length, Bool, true, false, not, Option, Some, None, refl, sym, ap, ◌∙◌, subst, arith}
+use Rattle.std.proofs.Common.{◌≡◌, ℕ, ◌+◌, ◌<◌, ◌≤◌, List, [], ◌∷◌, length, true, false, not, Option, Some, None, refl, sym, ap, ◌∙◌, subst, arith}
 use Rattle.hc_tree.specs.declared.place.Place.{Place}
 use Rattle.hc_core.specs.FirstPlace.{first_of, here_or, first_object}
 use Rattle.hc_core.specs.Rules.{nameless}

@@ -92,7 +92,7 @@ module _ (core : Core) (at : ObjectNets) (uses : List ObjectUses) (sources : Lis
   starts = stages.controlled.starts
 
   explains_read : Explains read.nodes trace h
-  explains_read = stages.connects.earlier trace h explains
+  explains_read = stages.connects.keeps.earlier trace h explains
 
   explains_used : Explains used.nodes trace h
   explains_used = Adds-extends stages.makes_sources.adds trace h explains_read

@@ -1,5 +1,5 @@
 -- A worked row of what the flip-flops and RAMs of a core's objects hold.
-use Rattle.std.proofs.Common.{◌≡◌, ◌<◌, List, [], ◌∷◌, Bool, true, false, lit<}
+use Rattle.std.proofs.Common.{◌≡◌, [], ◌∷◌, true, false, lit<}
 use Rattle.hc_core.specs.declared.object.Kind.TheVariants as kind
 use Rattle.hc_net.specs.Ram.{word_bit}
 use Rattle.hc_net.specs.Run.{State, HoldsBit, rams_of}

@@ -1,5 +1,5 @@
 -- The finished circuit: each net of an object reads its source, and all else is as it was made.
-use Rattle.std.proofs.Common.{◌≡◌, ◌<◌, ◌≤◌, ℕ, zero, suc, ◌+◌, ◌-◌, ◌*◌, ◌^◌, List, [], ◌∷◌, ◌++◌, length, map, Bool, false, Option, Some, None, refl, sym, ap, ◌∙◌, subst, ⊎_elim, arith}
+use Rattle.std.proofs.Common.{◌≡◌, ◌<◌, ◌≤◌, ℕ, ◌+◌, ◌-◌, ◌*◌, ◌^◌, List, [], ◌∷◌, ◌++◌, length, Bool, false, Some, None, refl, sym, ap, ◌∙◌, subst, ⊎_elim, arith}
 use Rattle.std.specs.Prelude.{slice_get, slice_index, slice_index_or, All}
 use Rattle.std.specs.List.{sum_by}
 use Rattle.std.proofs.lemmas.Bool.{cases_lt}
@@ -13,16 +13,14 @@ use Rattle.hc_core.specs.declared.object.Kind.{Kind}
 use Rattle.hc_core.specs.declared.object.Kind.TheVariants as kind
 use Rattle.hc_meaning.specs.Value.{first_words, inputs_before}
 use Rattle.hc_net.specs.Circuit.{Circuit, IsUnfed, node_at, reading}
-use Rattle.hc_net.specs.Seal as seal
-use Rattle.hc_net.specs.Seal.{Within}
 use Rattle.hc_net.specs.declared.net.FlopName.{FlopName}
 use Rattle.hc_net.specs.declared.gate.GateKind.{GateKind}
 use Rattle.hc_net.specs.declared.gate.GateKind.TheVariants as gate
 use Rattle.hc_net.specs.declared.node.Node.{Node}
 use Rattle.hc_net.specs.declared.node.Node.TheVariants.{Input, Flop, Wire, Gate, Ram}
+use Rattle.hc_token.specs.Part.{IsClosed, closed_kept}
 use Rattle.hc_value.specs.Objects.{nets_of, AreNets}
 use Rattle.hc_value.specs.declared.objects.ObjectNets.{ObjectNets}
-use Rattle.hc_control.specs.Building.{IsControlNode}
 use Rattle.hc_control.specs.Right.{net_count}
 use Rattle.hc_build.specs.Objects.{output_wire, object_nodes, nodes_from, nets_from}
 use Rattle.hc_build.specs.Sources.{IsSourceOf, Connects, bare, is_open}
@@ -32,11 +30,11 @@ use Rattle.hc_build.proofs.StructureStages.{constants, nets_placed, HasGates}
 
 -- ---- nodes that are done
 
-constants_done : (nodes : List Node) → All (IsControlNode nodes) constants
+constants_done : (nodes : List Node) → All (IsClosed nodes) constants
 constants_done nodes =
-    All-cons (IsControlNode nodes) (Gate gate.Zero 0 0) (Gate gate.One 0 0 ∷ []) tt (All-cons (IsControlNode nodes) (Gate gate.One 0 0) [] tt (All-nil (IsControlNode nodes)))
+    All-cons (IsClosed nodes) (Gate gate.Zero 0 0) (Gate gate.One 0 0 ∷ []) tt (All-cons (IsClosed nodes) (Gate gate.One 0 0) [] tt (All-nil (IsClosed nodes)))
 
-done_closed : (nodes : List Node) (x : Node) → IsControlNode nodes x → is_open x ≡ false
+done_closed : (nodes : List Node) (x : Node) → IsClosed nodes x → is_open x ≡ false
 done_closed nodes (Input p i) is = absurd is
 done_closed nodes (Flop name init None) is = absurd is
 done_closed nodes (Flop name init (Some d)) is = refl
@@ -44,28 +42,6 @@ done_closed nodes (Wire rank None) is = absurd is
 done_closed nodes (Wire rank (Some d)) is = refl
 done_closed nodes (Gate g a b) is = refl
 done_closed nodes (Ram rank first ram) is = absurd is
-
-done_moved : (old new : List Node) → ((k : ℕ) → Within old 0 k → Within new 0 k) → (x : Node) → IsControlNode old x → IsControlNode new x
-done_moved old new moved (Input p i) is = absurd is
-done_moved old new moved (Flop name init None) is = absurd is
-done_moved old new moved (Flop name init (Some d)) is = tt
-done_moved old new moved (Wire rank None) is = absurd is
-done_moved old new moved (Wire rank (Some d)) is = (is.0, moved d is.1)
-done_moved old new moved (Gate g a b) is = tt
-done_moved old new moved (Ram rank first ram) is = absurd is
-
--- a node's bare form stands in its place among the bare forms of all
-bare_at : (nodes : List Node) (n : ℕ) → node_at (map bare nodes) n ≡ bare (node_at nodes n)
-bare_at [] n = refl
-bare_at (x ∷ nodes) zero = refl
-bare_at (x ∷ nodes) (suc n) = bare_at nodes n
-
-bare_flop : (x : Node) (name : FlopName) (init : Bool) → bare x ≡ Flop name init None → (e : Option ℕ) × (x ≡ Flop name init e)
-bare_flop (Input p i) name init is = absurd cc
-bare_flop (Flop n b d) name init is = let same : n ≡ name = cc in let also : b ≡ init = cc in (d, cc)
-bare_flop (Wire rank from) name init is = absurd cc
-bare_flop (Gate g a b) name init is = absurd cc
-bare_flop (Ram rank first ram) name init is = absurd cc
 
 reading_closed : (d : ℕ) (x : Node) → is_open (reading d x) ≡ false
 reading_closed d (Input p i) = refl
@@ -94,7 +70,7 @@ reading_fed d (Ram rank first ram) unfed = absurd unfed
 pub record Joined (kinds : List Kind) (at : ObjectNets) (sources : List (List ℕ)) (old last : Circuit) : Type 0 where
   pub behind : List Node
   pub nodes : old.nodes ≡ nodes_from 0 0 kinds ++ (constants ++ behind)
-  pub parts : All (IsControlNode old.nodes) behind
+  pub parts : All (IsClosed old.nodes) behind
   pub objects : at.objects ≡ nets_from 0 kinds
   pub stand : HasGates old.nodes at
   pub sized : (k : ℕ) (x : Kind) → slice_get kinds k ≡ Some x → IsSourceOf (length old.nodes) x (slice_index_or sources k [])
@@ -154,40 +130,23 @@ module _ {kinds : List Kind} {at : ObjectNets} {sources : List (List ℕ)} {old 
   pub gate_last : (n : ℕ) (g : GateKind) (a b : ℕ) → node_at old.nodes n ≡ Gate g a b → node_at last.nodes n ≡ Gate g a b
   gate_last n g a b is = j.connects.kept n (ap is_open is) ∙ is
 
-  -- flip-flops stay, but for what they read
-  flop_last : (n : ℕ) (name : FlopName) (init : Bool) (d : Option ℕ) → node_at old.nodes n ≡ Flop name init d → (e : Option ℕ) × (node_at last.nodes n ≡ Flop name init e)
-  flop_last n name init d is = bare_flop (node_at last.nodes n) name init (sym (bare_at last.nodes n) ∙ ap (λ l. node_at l n) j.connects.bare ∙ bare_at old.nodes n ∙ ap bare is)
-
-  -- what reaches no placeholder still reaches none
-  within_last : (k : ℕ) → Within old.nodes 0 k → Within last.nodes 0 k
-  within_last _ (seal.input k p i is) = seal.input k p i (j.connects.kept k (ap is_open is) ∙ is)
-  within_last _ (seal.flop k name init d is) = let f = flop_last k name init d is in seal.flop k name init f.0 f.1
-  within_last _ (seal.wire k r from is lt) = absurd (omega (arith, lt))
-  within_last _ (seal.ram k r first ram is lt) = absurd (omega (arith, lt))
-  within_last _ (seal.zero k a b is) = seal.zero k a b (gate_last k gate.Zero a b is)
-  within_last _ (seal.one k a b is) = seal.one k a b (gate_last k gate.One a b is)
-  within_last _ (seal.negation k a b is x) = seal.negation k a b (gate_last k gate.Not a b is) (within_last a x)
-  within_last _ (seal.conjunction k a b is x y) = seal.conjunction k a b (gate_last k gate.And a b is) (within_last a x) (within_last b y)
-  within_last _ (seal.disjunction k a b is x y) = seal.disjunction k a b (gate_last k gate.Or a b is) (within_last a x) (within_last b y)
-  within_last _ (seal.exclusion k a b is x y) = seal.exclusion k a b (gate_last k gate.Xor a b is) (within_last a x) (within_last b y)
-
   -- a node behind the objects is done, and stays
-  behind_done : (n : ℕ) → sum_by net_count kinds ≤ n → n < length old.nodes → IsControlNode old.nodes (node_at old.nodes n)
+  behind_done : (n : ℕ) → sum_by net_count kinds ≤ n → n < length old.nodes → IsClosed old.nodes (node_at old.nodes n)
   behind_done n past inside =
       let more : List Node = constants ++ j.behind in
       let own = length-nodes_from 0 0 kinds in
       let all = ap length j.nodes in
       let parts = length-append (nodes_from 0 0 kinds) more in
-      let done : All (IsControlNode old.nodes) more = All-append (IsControlNode old.nodes) constants j.behind (constants_done old.nodes) j.parts in
+      let done : All (IsClosed old.nodes) more = All-append (IsClosed old.nodes) constants j.behind (constants_done old.nodes) j.parts in
       let at_end : node_at old.nodes n ≡ node_at more (n - sum_by net_count kinds) = ap (λ l. node_at l n) j.nodes ∙ get_or-append_right (nodes_from 0 0 kinds) more (sum_by net_count kinds) n (Wire 0 None) own past in
-      subst (IsControlNode old.nodes) (sym at_end) (done (n - sum_by net_count kinds) (Wire 0 None) (omega arith))
+      subst (IsClosed old.nodes) (sym at_end) (done (n - sum_by net_count kinds) (Wire 0 None) (omega arith))
 
-  pub behind_last : (n : ℕ) → sum_by net_count kinds ≤ n → n < length last.nodes → IsControlNode last.nodes (node_at last.nodes n)
+  pub behind_last : (n : ℕ) → sum_by net_count kinds ≤ n → n < length last.nodes → IsClosed last.nodes (node_at last.nodes n)
   behind_last n past inside =
       let size = same_size in
       let done = behind_done n past (omega arith) in
-      subst (IsControlNode last.nodes) (sym (j.connects.kept n (done_closed old.nodes (node_at old.nodes n) done)))
-      (done_moved old.nodes last.nodes within_last (node_at old.nodes n) done)
+      subst (IsClosed last.nodes) (sym (j.connects.kept n (done_closed old.nodes (node_at old.nodes n) done)))
+      (closed_kept j.connects.keeps (node_at old.nodes n) done)
 
   -- an input stays
   pub input_last : (k i w : ℕ) (s : Bool) (pins : List (List ℕ)) → slice_get kinds k ≡ Some (kind.Input w s pins) → i < w
@@ -229,12 +188,12 @@ module _ {kinds : List Kind} {at : ObjectNets} {sources : List (List ℕ)} {old 
 -- What a node of the finished circuit is: part of the control or a gate, an object's flip-flop, an input, or a placeholder of an
 -- output that is driven.
 pub data Finished (kinds : List Kind) (nodes : List Node) (sources : List (List ℕ)) : Node → Type 0 where
-  done : (x : Node) → IsControlNode nodes x → Finished kinds nodes sources x
+  done : (x : Node) → IsClosed nodes x → Finished kinds nodes sources x
   input : (p i : ℕ) → Finished kinds nodes sources (Input p i)
   driven : (k i w : ℕ) (s : Bool) (pins : List (List ℕ)) (value : Expr) → slice_get kinds k ≡ Some (kind.Output w s pins value) → i < w
       → Finished kinds nodes sources (Wire (2 ^ 32 - 1) (Some (slice_index (slice_index_or sources k []) i)))
 
-fed_done : (nodes : List Node) (x : Node) (d : ℕ) → IsFed x d → IsControlNode nodes x
+fed_done : (nodes : List Node) (x : Node) (d : ℕ) → IsFed x d → IsClosed nodes x
 fed_done nodes x d fed = rw fed.is tt
 
 finished_object : {kinds : List Kind} {at : ObjectNets} {sources : List (List ℕ)} {old last : Circuit} → Joined kinds at sources old last

@@ -11,34 +11,18 @@ use Rattle.hc_core.specs.declared.object.Kind.TheVariants as kind
 use Rattle.hc_meaning.specs.Value.{padded, bits_of, is_input}
 use Rattle.hc_net.specs.Bits.{bit}
 use Rattle.hc_net.specs.Circuit.{IsUnfed, flops_of, gates_of, input_nodes}
-use Rattle.hc_net.specs.Made.{IsGate}
 use Rattle.hc_net.specs.declared.net.FlopName.{FlopName}
 use Rattle.hc_net.specs.declared.net.FlopName.TheVariants.{Bit, Token}
 use Rattle.hc_net.specs.declared.node.Node.{Node}
 use Rattle.hc_net.specs.declared.node.Node.TheVariants.{Input, Flop, Wire, Gate, Ram}
 use Rattle.hc_token.specs.Control.{tokens_from}
+use Rattle.hc_token.specs.Counting.{flops_append, gates_append}
 use Rattle.hc_build.specs.Objects.{output_wire, word_flops, words_flops, object_nodes, nodes_from}
 use Rattle.hc_build.specs.Sources.{bare}
 use Rattle.hc_build.proofs.Placing.{length-words, length-padded}
 use Rattle.hc_build.proofs.StructureNodes.{words_unfed}
 
 -- ---- lists of nodes
-
-pub flops_of-append : (a b : List Node) → flops_of (a ++ b) ≡ flops_of a ++ flops_of b
-flops_of-append [] b = refl
-flops_of-append (Input p i ∷ a) b = flops_of-append a b
-flops_of-append (Flop name init d ∷ a) b = ap (λ l. (name, init) ∷ l) (flops_of-append a b)
-flops_of-append (Wire rank from ∷ a) b = flops_of-append a b
-flops_of-append (Gate g x y ∷ a) b = flops_of-append a b
-flops_of-append (Ram rank first ram ∷ a) b = flops_of-append a b
-
-pub gates_of-append : (a b : List Node) → gates_of (a ++ b) ≡ gates_of a + gates_of b
-gates_of-append [] b = omega arith
-gates_of-append (Input p i ∷ a) b = gates_of-append a b
-gates_of-append (Flop name init d ∷ a) b = gates_of-append a b
-gates_of-append (Wire rank from ∷ a) b = gates_of-append a b
-gates_of-append (Gate g x y ∷ a) b = let rest = gates_of-append a b in omega arith
-gates_of-append (Ram rank first ram ∷ a) b = gates_of-append a b
 
 -- what a flip-flop or a placeholder reads is no matter
 pub flops_of-bare : (nodes : List Node) → flops_of (map bare nodes) ≡ flops_of nodes
@@ -56,23 +40,6 @@ gates_of-bare (Flop name init d ∷ a) = gates_of-bare a
 gates_of-bare (Wire rank from ∷ a) = gates_of-bare a
 gates_of-bare (Gate g x y ∷ a) = ap (λ n. 1 + n) (gates_of-bare a)
 gates_of-bare (Ram rank first ram ∷ a) = gates_of-bare a
-
--- gates alone
-pub flops_of-gates : (nodes : List Node) → All IsGate nodes → flops_of nodes ≡ []
-flops_of-gates [] only = refl
-flops_of-gates (Input p i ∷ a) only = absurd (All-head IsGate (Input p i) a only)
-flops_of-gates (Flop name init d ∷ a) only = absurd (All-head IsGate (Flop name init d) a only)
-flops_of-gates (Wire rank from ∷ a) only = absurd (All-head IsGate (Wire rank from) a only)
-flops_of-gates (Gate g x y ∷ a) only = flops_of-gates a (All-tail IsGate (Gate g x y) a only)
-flops_of-gates (Ram rank first ram ∷ a) only = absurd (All-head IsGate (Ram rank first ram) a only)
-
-pub gates_of-most : (nodes : List Node) → gates_of nodes ≤ length nodes
-gates_of-most [] = omega arith
-gates_of-most (Input p i ∷ a) = let rest = gates_of-most a in omega arith
-gates_of-most (Flop name init d ∷ a) = let rest = gates_of-most a in omega arith
-gates_of-most (Wire rank from ∷ a) = let rest = gates_of-most a in omega arith
-gates_of-most (Gate g x y ∷ a) = let rest = gates_of-most a in omega arith
-gates_of-most (Ram rank first ram ∷ a) = let rest = gates_of-most a in omega arith
 
 -- flip-flops alone
 unfed_count : (nodes : List Node) → All IsUnfed nodes → length (flops_of nodes) ≡ length nodes
@@ -142,7 +109,7 @@ objects_flops k inputs (x ∷ kinds) =
     let next : ℕ = inputs + (if is_input x then 1 else 0) in
     let own : List Node = object_nodes k inputs x in
     let others : List Node = nodes_from (k + 1) next kinds in
-    ap length (flops_of-append own others)
+    ap length (flops_append own others)
     ∙ length-append (flops_of own) (flops_of others)
     ∙ ap (λ n. n + length (flops_of others)) (object_flops k inputs x)
     ∙ ap (λ n. kind_flops x + n) (objects_flops (k + 1) next kinds)
@@ -152,7 +119,7 @@ pub objects_gates : (k inputs : ℕ) (kinds : List Kind) → gates_of (nodes_fro
 objects_gates k inputs [] = refl
 objects_gates k inputs (x ∷ kinds) =
     let next : ℕ = inputs + (if is_input x then 1 else 0) in
-    gates_of-append (object_nodes k inputs x) (nodes_from (k + 1) next kinds)
+    gates_append (object_nodes k inputs x) (nodes_from (k + 1) next kinds)
     ∙ ap (λ n. n + gates_of (nodes_from (k + 1) next kinds)) (object_gates k inputs x)
     ∙ ap (λ n. 0 + n) (objects_gates (k + 1) next kinds)
 
@@ -271,7 +238,7 @@ words_distinct k from w (bits ∷ rest) more later =
 -- nodes without flip-flops in front change nothing
 none_distinct : (k : ℕ) (own more : List Node) → flops_of own ≡ [] → Names (FromBit (k + 1) 0) more → Names (FromBit k 0) (own ++ more)
 none_distinct k own more none later =
-    let same : flops_of (own ++ more) ≡ flops_of more = flops_of-append own more ∙ ap (λ l. l ++ flops_of more) none in
+    let same : flops_of (own ++ more) ≡ flops_of more = flops_append own more ∙ ap (λ l. l ++ flops_of more) none in
     subst (λ (l : List (FlopName × Bool)). Distinct l × EachName (FromBit k 0) l) (sym same) (later.0, each_weaker (FromBit (k + 1) 0) (FromBit k 0) (bit_of_later k 0) (flops_of more) later.1)
 
 object_distinct : (k inputs : ℕ) (x : Kind) (more : List Node) → Names (FromBit (k + 1) 0) more → Names (FromBit k 0) (object_nodes k inputs x ++ more)

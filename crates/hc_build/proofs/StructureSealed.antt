@@ -14,6 +14,7 @@ use Rattle.hc_core.specs.declared.object.Core.{Core}
 use Rattle.hc_core.specs.declared.object.Kind.{Kind}
 use Rattle.hc_core.specs.declared.object.Kind.TheVariants as kind
 use Rattle.hc_net.specs.Circuit.{Circuit, node_at, flops_of, gates_of, memories_of}
+use Rattle.hc_net.specs.Frame.{keeps_gates, low_within, within_low}
 use Rattle.hc_net.specs.Made.{Over, IsGate}
 use Rattle.hc_net.specs.MadeLemmas.{Over-within}
 use Rattle.hc_net.specs.Seal as seal
@@ -26,34 +27,27 @@ use Rattle.hc_net.specs.declared.node.Node.{Node}
 use Rattle.hc_net.specs.declared.ram.RamCell.{RamCell}
 use Rattle.hc_net.specs.declared.node.Node.TheVariants.{Input, Flop, Wire, Gate, Ram}
 use Rattle.hc_token.specs.Control.{tokens_from}
+use Rattle.hc_token.specs.Counting.{flops_append, gates_append, gates_most, no_flops}
+use Rattle.hc_token.specs.Part.{IsClosed, closed_gate, closed_kept}
 use Rattle.hc_value.specs.Objects.{nets_of}
 use Rattle.hc_value.specs.Reads.{reached, read_nets}
 use Rattle.hc_value.specs.declared.objects.ObjectNets.{ObjectNets}
-use Rattle.hc_control.specs.Building.{IsControlNode}
 use Rattle.hc_control.specs.Built.{is_built_expression}
 use Rattle.hc_control.specs.Controlled.{most_control}
 use Rattle.hc_control.specs.Right.{AreAll}
 use Rattle.hc_control.specs.declared.uses.ObjectUses.{ObjectUses}
-use Rattle.hc_control.proofs.Adding.{keeps_gates, node_kept}
 use Rattle.hc_build.specs.Implements.{shape_of, shapes_of}
 use Rattle.hc_build.specs.Objects.{nodes_from, ports_from}
 use Rattle.hc_build.specs.Sources.{output_gates}
 use Rattle.hc_build.specs.Uses.{all_next_gates}
 use Rattle.hc_build.proofs.Program.{built_outputs}
 use Rattle.hc_build.proofs.Stages.{Stages}
-use Rattle.hc_build.proofs.StructureNames.{flops_of-append, flops_of-bare, flops_of-gates, gates_of-append, gates_of-bare, gates_of-most, objects_flops, objects_gates, tokens_many, distinct_names}
+use Rattle.hc_build.proofs.StructureNames.{flops_of-bare, gates_of-bare, objects_flops, objects_gates, tokens_many, distinct_names}
 use Rattle.hc_build.proofs.StructurePorts.{shapes_are, shapes_placed, names_are, names_differ, sizes_are}
 use Rattle.hc_build.proofs.StructureStages.{constants, used_nodes, grown_nodes, uses_of, constants_stand, can_connect, few_next}
-use Rattle.hc_build.proofs.StructureWithin.{reads_all, Over-moved}
+use Rattle.hc_build.proofs.StructureWithin.{reads_all}
 use Rattle.hc_build.proofs.StructureJoined.{IsFed, Joined, Finished, done, input, driven, finished, own_nets, register_last, array_last, input_last, gate_last}
 use Rattle.hc_build.proofs.Weights.{all_next_light}
-
-gate_done : (nodes : List Node) (x : Node) → IsGate x → IsControlNode nodes x
-gate_done nodes (Input p i) is = absurd is
-gate_done nodes (Flop name init d) is = absurd is
-gate_done nodes (Wire rank from) is = absurd is
-gate_done nodes (Gate g a b) is = tt
-gate_done nodes (Ram rank first ram) is = absurd is
 
 -- ---- from the stages
 
@@ -69,12 +63,12 @@ module _ {core : Core} {at : ObjectNets} {uses : List ObjectUses} {sources : Lis
       ∙ ap (λ l. l ++ s.makes_sources.adds.gates) (used_nodes core placed used at s.places s.controlled.adds)
       ∙ grown_nodes (nodes_from 0 0 (kinds_of core.objects)) constants s.controlled.adds.added s.makes_sources.adds.gates
 
-  behind_parts : All (IsControlNode read.nodes) behind
+  behind_parts : All (IsClosed read.nodes) behind
   unfolding behind
   behind_parts =
-      All-append (IsControlNode read.nodes) s.controlled.adds.added s.makes_sources.adds.gates
-      (All-weaker (IsControlNode used.nodes) (IsControlNode read.nodes) (node_kept (keeps_gates s.makes_sources.adds)) s.controlled.adds.added s.controlled.adds.parts)
-      (All-weaker IsGate (IsControlNode read.nodes) (gate_done read.nodes) s.makes_sources.adds.gates s.makes_sources.adds.only)
+      All-append (IsClosed read.nodes) s.controlled.adds.added s.makes_sources.adds.gates
+      (All-weaker (IsClosed used.nodes) (IsClosed read.nodes) (closed_kept (keeps_gates s.makes_sources.adds)) s.controlled.adds.added s.controlled.adds.parts)
+      (All-weaker IsGate (IsClosed read.nodes) (closed_gate read.nodes) s.makes_sources.adds.gates s.makes_sources.adds.only)
 
   pub joined : Joined (kinds_of core.objects) at sources read last
   joined = record {
@@ -118,18 +112,18 @@ module _ {core : Core} {at : ObjectNets} {uses : List ObjectUses} {sources : Lis
   behind_flops : flops_of (constants ++ behind) ≡ (Token 0, true) ∷ tokens_from 1 (statement_flops (statement core.main))
   unfolding behind
   behind_flops =
-      flops_of-append constants (s.controlled.adds.added ++ s.makes_sources.adds.gates)
-      ∙ flops_of-append s.controlled.adds.added s.makes_sources.adds.gates
-      ∙ ap (λ l. flops_of s.controlled.adds.added ++ l) (flops_of-gates s.makes_sources.adds.gates s.makes_sources.adds.only)
+      flops_append constants (s.controlled.adds.added ++ s.makes_sources.adds.gates)
+      ∙ flops_append s.controlled.adds.added s.makes_sources.adds.gates
+      ∙ ap (λ l. flops_of s.controlled.adds.added ++ l) (no_flops s.makes_sources.adds.gates s.makes_sources.adds.only)
       ∙ append-nil (flops_of s.controlled.adds.added)
       ∙ s.controlled.adds.tokens
 
   behind_gates : gates_of (constants ++ behind) ≤ 2 + (most_control core + (all_next_gates used.nodes (kinds_of core.objects) uses + sum_by (output_gates (kinds_of core.objects)) (kinds_of core.objects)))
   unfolding behind
   behind_gates =
-      let both = gates_of-append s.controlled.adds.added s.makes_sources.adds.gates in
+      let both = gates_append s.controlled.adds.added s.makes_sources.adds.gates in
       let control = s.controlled.adds.gates in
-      let most = gates_of-most s.makes_sources.adds.gates in
+      let most = gates_most s.makes_sources.adds.gates in
       let made = s.makes_sources.adds.few in
       omega arith
 
@@ -137,7 +131,7 @@ module _ {core : Core} {at : ObjectNets} {uses : List ObjectUses} {sources : Lis
   few_flops =
       let own : List Node = nodes_from 0 0 (kinds_of core.objects) in
       let more : List Node = constants ++ behind in
-      let all : length (flops_of last.nodes) ≡ length (flops_of own ++ flops_of more) = ap length (last_flops ∙ flops_of-append own more) in
+      let all : length (flops_of last.nodes) ≡ length (flops_of own ++ flops_of more) = ap length (last_flops ∙ flops_append own more) in
       let outer = length-append (flops_of own) (flops_of more) in
       let objects = objects_flops 0 0 (kinds_of core.objects) in
       let tokens = ap length behind_flops in
@@ -147,7 +141,7 @@ module _ {core : Core} {at : ObjectNets} {uses : List ObjectUses} {sources : Lis
   pub few_gates : gates_of last.nodes ≤ weight_of core
   few_gates =
       let own : List Node = nodes_from 0 0 (kinds_of core.objects) in
-      let outer = gates_of-append own (constants ++ behind) in
+      let outer = gates_append own (constants ++ behind) in
       let all = last_gates in
       let objects = objects_gates 0 0 (kinds_of core.objects) in
       let most = behind_gates in
@@ -170,36 +164,23 @@ reads_within {kinds} {at} {last = last} j = record {
   input = λ k w s pins is. over_nets (Within last.nodes 0) (nets_of at k) w (own_nets j k (kind.Input w s pins) is).count (λ i low. seal.input _ _ i (input_last j k i w s pins is low));
 }
 
--- what reaches no placeholder reaches none of a lower rank
-any_rank : {nodes : List Node} {rank k : ℕ} → Within nodes 0 k → Within nodes rank k
-any_rank (seal.input k p i is) = seal.input k p i is
-any_rank (seal.flop k name init d is) = seal.flop k name init d is
-any_rank (seal.wire k r from is low) = absurd (omega (arith, low))
-any_rank (seal.ram k r first ram is low) = absurd (omega (arith, low))
-any_rank (seal.zero k a b is) = seal.zero k a b is
-any_rank (seal.one k a b is) = seal.one k a b is
-any_rank (seal.negation k a b is x) = seal.negation k a b is (any_rank x)
-any_rank (seal.conjunction k a b is x y) = seal.conjunction k a b is (any_rank x) (any_rank y)
-any_rank (seal.disjunction k a b is x y) = seal.disjunction k a b is (any_rank x) (any_rank y)
-any_rank (seal.exclusion k a b is x y) = seal.exclusion k a b is (any_rank x) (any_rank y)
-
 -- ---- sealable
 
 -- no flip-flop is left that reads nothing
 not_unfed : {kinds : List Kind} {nodes : List Node} {sources : List (List ℕ)} (x : Node) → Finished kinds nodes sources x → (name : FlopName) (init : Bool) → x ≢ Flop name init None
-not_unfed {nodes = nodes} x (done y is) name init = λ same. subst (IsControlNode nodes) same is
+not_unfed {nodes = nodes} x (done y is) name init = λ same. subst (IsClosed nodes) same is
 not_unfed _ (input p i) name init = λ same. absurd cc
 not_unfed _ (driven k i w s pins value is low) name init = λ same. absurd cc
 
--- a placeholder is driven by what reaches no other
-done_driven : (nodes : List Node) (x : Node) → IsControlNode nodes x → (rank : ℕ) (from : Option ℕ) → x ≡ Wire rank from → (d : ℕ) × (from ≡ Some d) × Within nodes rank d
+-- a placeholder is driven by what reaches smaller ranks alone
+done_driven : (nodes : List Node) (x : Node) → IsClosed nodes x → (rank : ℕ) (from : Option ℕ) → x ≡ Wire rank from → (d : ℕ) × (from ≡ Some d) × Within nodes rank d
 done_driven nodes (Input p i) is rank from same = absurd is
 done_driven nodes (Flop name init d) is rank from same = absurd cc
 done_driven nodes (Wire r None) is rank from same = absurd is
 done_driven nodes (Wire r (Some d)) is rank from same =
     let ranks : r ≡ rank = cc in
     let drivers : Some d ≡ from = cc in
-    (d, sym drivers, subst (λ n. Within nodes n d) (sym is.0 ∙ ranks) is.1)
+    (d, sym drivers, subst (λ n. Within nodes n d) ranks (low_within is))
 done_driven nodes (Gate g a b) is rank from same = absurd cc
 done_driven nodes (Ram r first ram) is rank from same = absurd cc
 
@@ -212,7 +193,7 @@ is_driven {nodes = nodes} {sources = sources} _ (driven k i w s pins value is lo
     let net : ℕ = slice_index (slice_index_or sources k []) i in
     let ranks : 2 ^ 32 - 1 ≡ rank = cc in
     let drivers : Some net ≡ from = cc in
-    (net, sym drivers, subst (λ n. Within nodes n net) ranks (any_rank (outputs k i w s pins value is low)))
+    (net, sym drivers, subst (λ n. Within nodes n net) ranks (low_within (within_low (outputs k i w s pins value is low))))
 
 -- no node is part of a RAM
 abbrev is_ram : Node → Bool
@@ -222,7 +203,7 @@ is_ram (Wire rank from) = false
 is_ram (Gate g a b) = false
 is_ram (Ram rank first ram) = true
 
-control_no_ram : (nodes : List Node) (x : Node) → IsControlNode nodes x → is_ram x ≡ false
+control_no_ram : (nodes : List Node) (x : Node) → IsClosed nodes x → is_ram x ≡ false
 control_no_ram nodes (Input p i) is = refl
 control_no_ram nodes (Flop name init d) is = refl
 control_no_ram nodes (Wire rank from) is = refl
@@ -259,7 +240,7 @@ module _ {core : Core} {at : ObjectNets} {uses : List ObjectUses} {sources : Lis
       let one : Within last.nodes 0 at.one = seal.one at.one 0 0 (gate_last j at.one _ 0 0 j.stand.one) in
       let all : All (Within last.nodes 0) (reached at (expression value)) =
       All-cons (Within last.nodes 0) at.zero (at.one ∷ read_nets at (expression value)) zero (All-cons (Within last.nodes 0) at.one (read_nets at (expression value)) one names) in
-      Over-within all (Over-moved (gate_last j) over)
+      Over-within all (j.connects.keeps.over (reached at (expression value)) (slice_index nets i) over)
 
   node_finished : (n : ℕ) (x : Node) → slice_get last.nodes n ≡ Some x → Finished (kinds_of core.objects) last.nodes sources x
   node_finished n x is =

@@ -1,4 +1,4 @@
--- What an expression of built forms reads, and what a net reaches back to when flip-flops are fed.
+-- What an expression of built forms reads.
 use Rattle.std.proofs.Common.{◌≡◌, ℕ, List, [], ◌++◌, Bool, true, ◌&&◌}
 use Rattle.std.specs.Prelude.{All}
 use Rattle.std.proofs.lemmas.List.Elements.{All-nil, All-append}
@@ -6,20 +6,12 @@ use Rattle.hc_core.specs.Program.{Expression}
 use Rattle.hc_core.specs.Typed as typed
 use Rattle.hc_core.specs.Typed.{Typed}
 use Rattle.hc_core.specs.declared.object.Kind.{Kind}
-use Rattle.hc_net.specs.Circuit.{node_at}
-use Rattle.hc_net.specs.Made as made
-use Rattle.hc_net.specs.Made.{Over}
-use Rattle.hc_net.specs.declared.gate.GateKind.{GateKind}
-use Rattle.hc_net.specs.declared.node.Node.{Node}
-use Rattle.hc_net.specs.declared.node.Node.TheVariants.{Gate}
 use Rattle.hc_value.specs.Objects.{nets_of}
 use Rattle.hc_value.specs.Reads.{read_nets}
 use Rattle.hc_value.specs.declared.objects.ObjectNets.{ObjectNets}
 use Rattle.hc_control.specs.Built.{is_built_expression}
 use Rattle.hc_control.specs.Right.{AreAll}
 use Rattle.hc_build.proofs.Program.{both_of}
-
--- ---- what an expression reads
 
 pub reads_all : {P : ℕ → Type 0} {kinds : List Kind} {at : ObjectNets} → AreAll P kinds at → (e : Expression) (w : ℕ) (s : Bool) → Typed kinds e w s → is_built_expression e ≡ true → All P (read_nets at e)
 reads_all {P} all _ _ _ (typed.constant n is) built = All-nil P
@@ -67,15 +59,3 @@ reads_all {P} {at = at} all _ _ _ (typed.choice c a b v w r s t u x) built =
     let sides = both_of (is_built_expression a) (is_built_expression b) first.1 in
     All-append P (read_nets at c) (read_nets at a ++ read_nets at b) (reads_all all c _ _ t first.0)
     (All-append P (read_nets at a) (read_nets at b) (reads_all all a _ _ u sides.0) (reads_all all b _ _ x sides.1))
-
--- ---- what a net reaches
-
--- where gates stay, nets reach what they reached
-pub Over-moved : {old new : List Node} {args : List ℕ} {k : ℕ} → ((j : ℕ) (g : GateKind) (a b : ℕ) → node_at old j ≡ Gate g a b → node_at new j ≡ Gate g a b) → Over old args k → Over new args k
-Over-moved kept (made.argument k i within is) = made.argument k i within is
-Over-moved kept (made.zero k a b is) = made.zero k a b (kept k _ a b is)
-Over-moved kept (made.one k a b is) = made.one k a b (kept k _ a b is)
-Over-moved kept (made.negation k a b is x) = made.negation k a b (kept k _ a b is) (Over-moved kept x)
-Over-moved kept (made.conjunction k a b is x y) = made.conjunction k a b (kept k _ a b is) (Over-moved kept x) (Over-moved kept y)
-Over-moved kept (made.disjunction k a b is x y) = made.disjunction k a b (kept k _ a b is) (Over-moved kept x) (Over-moved kept y)
-Over-moved kept (made.exclusion k a b is x y) = made.exclusion k a b (kept k _ a b is) (Over-moved kept x) (Over-moved kept y)

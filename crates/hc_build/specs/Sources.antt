@@ -5,7 +5,8 @@ use Rattle.hc_core.specs.Read.{expression}
 use Rattle.hc_core.specs.Weight.{expression_weight}
 use Rattle.hc_core.specs.declared.object.Kind.{Kind}
 use Rattle.hc_core.specs.declared.object.Kind.TheVariants as kind
-use Rattle.hc_net.specs.Circuit.{Circuit, node_at, reading, Extends}
+use Rattle.hc_net.specs.Circuit.{Circuit, node_at, reading}
+use Rattle.hc_net.specs.Frame.{Keeps}
 use Rattle.hc_net.specs.Made.{Adds, Always, Over}
 use Rattle.hc_net.specs.declared.node.Node.{Node}
 use Rattle.hc_net.specs.declared.node.Node.TheVariants.{Input, Flop, Wire, Gate, Ram}
@@ -117,7 +118,7 @@ pub record ReadsFirst (n : ℕ) (nets from : List ℕ) (old new : Circuit) : Typ
   pub read : (i : ℕ) → i < n → node_at new.nodes (slice_index nets i) ≡ reading (slice_index from i) (node_at old.nodes (slice_index nets i))
   pub others : (j : ℕ) → ((i : ℕ) → i < n → slice_index nets i ≢ j) → node_at new.nodes j ≡ node_at old.nodes j
   pub bare : map bare new.nodes ≡ map bare old.nodes
-  pub earlier : Extends old.nodes new.nodes
+  pub keeps : Keeps old.nodes new.nodes
 
 -- Each net of an object reads the net in the same place of its source, and all else is as it was.
 pub record Connects (kinds : List Kind) (at : ObjectNets) (sources : List (List ℕ)) (old new : Circuit) : Type 0 where
@@ -127,7 +128,7 @@ pub record Connects (kinds : List Kind) (at : ObjectNets) (sources : List (List 
       → node_at new.nodes (slice_index (nets_of at k) i) ≡ reading (slice_index (slice_index_or sources k []) i) (node_at old.nodes (slice_index (nets_of at k) i))
   pub kept : (j : ℕ) → is_open (node_at old.nodes j) ≡ false → node_at new.nodes j ≡ node_at old.nodes j
   pub bare : map bare new.nodes ≡ map bare old.nodes
-  pub earlier : Extends old.nodes new.nodes
+  pub keeps : Keeps old.nodes new.nodes
 
 -- What it takes to connect the objects: their nodes stand first, and each source names nets that are there, one for each
 -- net of its object, or none.

@@ -4,7 +4,7 @@ use Rattle.hc_core.specs.Typed.{kinds_of}
 use Rattle.hc_core.specs.declared.object.Object.{Object}
 use Rattle.hc_net.specs.Circuit.{Circuit}
 use Rattle.hc_build.specs.Sources.{is_placeholder}
-use Rattle.hc_build.proofs.Connecting.{ConnectsFirst, can_read, can_feed, can_drive, connects_more, objects_there, kind_item, nets_item, source_item}
+use Rattle.hc_build.proofs.Connecting.{ConnectsFirst, can_read, can_feed, can_drive, connects_none, connects_more, objects_there, kind_item, nets_item, source_item}
 use Rattle.hc_build.proofs.connect.connect.Goals as goal
 use Rattle.hc_build.proofs.connect.connect.Goals.{then-is_output, else-is_output}
 
@@ -35,6 +35,9 @@ feed_all-requires-clause-unfed c =
     let there = kind_item _ _ _ c.index-objects-k.result c.as_slice-objects.ensures c.loop-k-test.true c.index-objects-k.is in
     can_feed _ _ _ _ _ _ _ _ _ c.requires c.loop-k.invariant there (nets_item _ _ _ _ _ _ _ _ c.requires there c.as_slice.ensures c.index-as_slice-k.is)
     (source_item _ _ _ _ _ _ _ _ c.requires there c.as_slice-in-loop-k.ensures c.index-as_slice-k-in-loop-k.is) (ap (λ (o : Object). is_placeholder o.kind) c.index-objects-k.is ∙ sym c.is_output.ensures ∙ c.if-is_output.false)
+
+pub loop-k-init : goal.loop-k-init
+loop-k-init c = connects_none _ _ _ _
 
 pub loop-k-preserved : goal.loop-k-preserved
 loop-k-preserved c =

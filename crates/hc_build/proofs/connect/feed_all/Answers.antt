@@ -1,8 +1,11 @@
 -- One net more.
 use Rattle.std.proofs.Common.{ap}
 use Rattle.std.specs.Prelude.{slice_index}
-use Rattle.hc_build.proofs.Connecting.{reads_more}
+use Rattle.hc_build.proofs.Connecting.{reads_none, reads_more}
 use Rattle.hc_build.proofs.connect.feed_all.Goals as goal
+
+pub loop-i-init : goal.loop-i-init
+loop-i-init c = reads_none _ _ _
 
 pub loop-i-preserved : goal.loop-i-preserved
 loop-i-preserved c =
