@@ -1,0 +1,4 @@
+pub mod Typing
+pub mod Words
+pub mod Places
+pub mod Forms
