@@ -17,7 +17,7 @@ use Rattle.hc_bits.specs.Held.{held}
 use Rattle.hc_bits.proofs.EachBit.{bits_more, bits_of, map_same}
 use Rattle.hc_bits.proofs.Joined.{any, any_number}
 use Rattle.hc_bits.proofs.Parts.{Over-right, Over-at, All-one, All-right, Makes-over}
-use Rattle.hc_store.specs.Takes.{Takes, AreValues, all_nets, column_nets, some_both}
+use Rattle.hc_store.specs.Takes.{Takes, AreValues, all_nets, column_nets, joined_bit, none_of, some_both}
 use Rattle.hc_store.proofs.Choices.{some_both-number, one_bit_list, AllOff, any_off, any_on, OneOn, last_through, one_through}
 
 -- ---- one bit
@@ -120,35 +120,42 @@ column_bits : (v : ℕ → Bool) (q : List ℕ) (values : List (List ℕ)) (i : 
 column_bits v q values i =
     map-append v (map (λ value. get_or value i 0) values) (get_or q i 0 ∷ []) ∙ ap (λ l. l ++ v (get_or q i 0) ∷ []) (map-map v (λ value. get_or value i 0) values)
 
+none_any : (bits : List Bool) → none_of bits ≡ not (any bits)
+none_any [] = refl
+none_any (true ∷ bits) = refl
+none_any (false ∷ bits) = none_any bits
+
 -- none is on
-next_kept : (v : ℕ → Bool) (q enables choices next : List ℕ) (values : List (List ℕ)) → length values ≡ length enables
-    → map v choices ≡ map v enables ++ true ∷ [] → AllOff (map v enables)
-    → map v next ≡ map (λ k. some_both (map v choices) (map v (column_nets q values k))) (range_with_len 0 (length q))
-    → map v next ≡ map v q
-next_kept v q enables choices next values same chosen off is =
-    is ∙ map_same _ (λ k. v (get_or q k 0)) bit (range_with_len 0 (length q)) ∙ sym (bits_of v q)
+next_kept : (v : ℕ → Bool) (q enables next : List ℕ) (values : List (List ℕ)) → length values ≡ length enables → AllOff (map v enables)
+    → map v next ≡ map (joined_bit v q enables values) (range_with_len 0 (length q)) → map v next ≡ map v q
+next_kept v q enables next values same off is =
+    is ∙ map_same (joined_bit v q enables values) (λ k. v (get_or q k 0)) bit (range_with_len 0 (length q)) ∙ sym (bits_of v q)
   where
-    bit : (k : ℕ) → some_both (map v choices) (map v (column_nets q values k)) ≡ v (get_or q k 0)
+    none : none_of (map v enables) ≡ true
+    none = none_any (map v enables) ∙ ap not (any_off (map v enables) off)
+
+    bit : (k : ℕ) → joined_bit v q enables values k ≡ v (get_or q k 0)
     bit k =
-        ap (λ l. some_both l (map v (column_nets q values k))) chosen ∙ ap (λ l. some_both (map v enables ++ true ∷ []) l) (column_bits v q values k)
+        ap (λ b. some_both (map v enables ++ b ∷ []) (map v (column_nets q values k))) none ∙ ap (λ l. some_both (map v enables ++ true ∷ []) l) (column_bits v q values k)
         ∙ last_through true (map v enables) (map (λ value. v (get_or value k 0)) values) (v (get_or q k 0)) (length-map values (λ value. v (get_or value k 0)) ∙ same ∙ sym (length-map enables v)) off
 
 -- one is on
-next_taken : (v : ℕ → Bool) (q enables choices next : List ℕ) (values : List (List ℕ)) (i : ℕ) → length values ≡ length enables
-    → length (get_or values i []) ≡ length q
-    → map v choices ≡ map v enables ++ false ∷ [] → OneOn (map v enables) i
-    → map v next ≡ map (λ k. some_both (map v choices) (map v (column_nets q values k))) (range_with_len 0 (length q))
-    → map v next ≡ map v (get_or values i [])
-next_taken v q enables choices next values i same width chosen one is =
-    is ∙ map_same _ (λ k. v (get_or (get_or values i []) k 0)) bit (range_with_len 0 (length q))
+next_taken : (v : ℕ → Bool) (q enables next : List ℕ) (values : List (List ℕ)) (i : ℕ) → length values ≡ length enables
+    → length (get_or values i []) ≡ length q → OneOn (map v enables) i
+    → map v next ≡ map (joined_bit v q enables values) (range_with_len 0 (length q)) → map v next ≡ map v (get_or values i [])
+next_taken v q enables next values i same width one is =
+    is ∙ map_same (joined_bit v q enables values) (λ k. v (get_or (get_or values i []) k 0)) bit (range_with_len 0 (length q))
     ∙ ap (λ n. map (λ k. v (get_or (get_or values i []) k 0)) (range_with_len 0 n)) (sym width) ∙ sym (bits_of v (get_or values i []))
   where
     size : length values ≡ length (map v enables)
     size = same ∙ sym (length-map enables v)
 
-    bit : (k : ℕ) → some_both (map v choices) (map v (column_nets q values k)) ≡ v (get_or (get_or values i []) k 0)
+    none : none_of (map v enables) ≡ false
+    none = none_any (map v enables) ∙ ap not (any_on (map v enables) i one)
+
+    bit : (k : ℕ) → joined_bit v q enables values k ≡ v (get_or (get_or values i []) k 0)
     bit k =
-        ap (λ l. some_both l (map v (column_nets q values k))) chosen ∙ ap (λ l. some_both (map v enables ++ false ∷ []) l) (column_bits v q values k)
+        ap (λ b. some_both (map v enables ++ b ∷ []) (map v (column_nets q values k))) none ∙ ap (λ l. some_both (map v enables ++ false ∷ []) l) (column_bits v q values k)
         ∙ one_through (map v enables) (map (λ value. v (get_or value k 0)) values) (v (get_or q k 0)) i (length-map values (λ value. v (get_or value k 0)) ∙ size) one
         ∙ get_or-map (λ value. v (get_or value k 0)) values i [] false (let within = one.within in omega (arith, size))
 
@@ -171,7 +178,7 @@ none_bit v enables some none one also tells turns =
 map_bits : (v : ℕ → Bool) (enables : List ℕ) (i : ℕ) → i < length enables → get_or (map v enables) i false ≡ v (get_or enables i 0)
 map_bits v enables i within = get_or-map v enables i 0 false within
 
-pub held_made : (q enables some none choices next : List ℕ) (values : List (List ℕ)) (n : ℕ) (old first second new : Circuit)
+pub joined_made : (q enables some none choices next : List ℕ) (values : List (List ℕ)) (n : ℕ) (old first second new : Circuit)
     → length values ≡ length enables → length some ≡ 1 → length none ≡ length some → AreValues n (length q) values
     → choices ≡ enables ++ none
     → Makes (length enables) enables old first some (λ v. (s : Bool) → held false v some ≡ one_bit (not ((held s v enables).bits == 0)))
@@ -179,8 +186,8 @@ pub held_made : (q enables some none choices next : List ℕ) (values : List (Li
     → Makes (length q * (2 * length choices)) (choices ++ (q ++ all_nets values)) second new next
     (λ v. map v next ≡ map (λ i. some_both (map v choices) (map v (column_nets q values i))) (range_with_len 0 (length q)))
     → Makes (length q * (2 * (length enables + 1)) + (length enables + 1)) (q ++ (enables ++ all_nets values)) old new next
-    (λ v. Takes v (length enables) (λ i. v (get_or enables i 0)) q values next)
-held_made q enables some none choices next values n old first second new same one also each is tells turns made =
+    (λ v. map v next ≡ map (joined_bit v q enables values) (range_with_len 0 (length q)))
+joined_made q enables some none choices next values n old first second new same one also each is tells turns made =
     let args = q ++ (enables ++ all_nets values) in
     let of_enables : All (Over old.nodes args) enables = (λ i d at. Over-over (Over-right q (enables ++ all_nets values)) (Over-left enables (all_nets values) i d at)) in
     let asked = Makes-over tells of_enables in
@@ -199,27 +206,42 @@ held_made q enables some none choices next values n old first second new same on
     (let w : length q * (2 * length (enables ++ none)) ≡ length q * (2 * (length enables + 1)) = ap (λ k. length q * (2 * k)) width in omega (arith, w, one))
     (λ v holds.
     let none_is = none_bit v enables some none one (also ∙ one) (holds.0.0 false) (holds.0.1 false) in
-    let front : map v (enables ++ none) ≡ map v enables ++ not (any (map v enables)) ∷ [] = map-append v enables none ∙ ap (λ l. map v enables ++ l) none_is in
-    record {
-      kept = λ off.
-          let all_off : AllOff (map v enables) = (λ i within. map_bits v enables i (omega (arith, within, length-map enables v)) ∙ off i (omega (arith, within, length-map enables v))) in
-          next_kept v q enables (enables ++ none) next values same (front ∙ ap (λ b. map v enables ++ not b ∷ []) (any_off (map v enables) all_off)) all_off holds.1;
-      taken = λ i within is_on alone.
-          let one_on : OneOn (map v enables) i = record {
-            within = omega (arith, within, length-map enables v);
-            is_on = map_bits v enables i within ∙ is_on;
-            alone = λ j at on. alone j (omega (arith, at, length-map enables v)) (sym (map_bits v enables j (omega (arith, at, length-map enables v))) ∙ on);
-          } in
-          next_taken v q enables (enables ++ none) next values i same ((each i [] (omega (arith, within, same))).width)
-          (front ∙ ap (λ b. map v enables ++ not b ∷ []) (any_on (map v enables) i one_on)) one_on holds.1;
-    })
+    let front : map v (enables ++ none) ≡ map v enables ++ none_of (map v enables) ∷ [] =
+    map-append v enables none ∙ ap (λ l. map v enables ++ l) none_is ∙ ap (λ b. map v enables ++ b ∷ []) (sym (none_any (map v enables))) in
+    holds.1 ∙ ap (λ (bits : List Bool). map (λ i. some_both bits (map v (column_nets q values i))) (range_with_len 0 (length q))) front)
 
 -- nothing is written
-pub kept_made : (q enables z : List ℕ) (values : List (List ℕ)) (c : Circuit) → length enables ≡ 0 → z ≡ q → All (λ k. k < length c.nodes) q
+none_joined : (v : ℕ → Bool) (q enables : List ℕ) (values : List (List ℕ)) → length enables ≡ 0 → length values ≡ length enables
+    → map v q ≡ map (joined_bit v q enables values) (range_with_len 0 (length q))
+none_joined v q [] [] none same = bits_of v q ∙ sym (map_same (joined_bit v q [] []) (λ k. v (get_or q k 0)) (λ k. or_nothing (v (get_or q k 0))) (range_with_len 0 (length q)))
+  where
+    or_nothing : (b : Bool) → some_both (true ∷ []) (b ∷ []) ≡ b
+    or_nothing true = refl
+    or_nothing false = refl
+none_joined v q [] (x ∷ values) none same = absurd (omega (arith, same))
+none_joined v q (e ∷ enables) values none same = absurd (omega (arith, none))
+
+pub kept_made : (q enables z : List ℕ) (values : List (List ℕ)) (c : Circuit) → length enables ≡ 0 → length values ≡ length enables → z ≡ q → All (λ k. k < length c.nodes) q
     → Makes (length q * (2 * (length enables + 1)) + (length enables + 1)) (q ++ (enables ++ all_nets values)) c c z
-    (λ v. Takes v (length enables) (λ i. v (get_or enables i 0)) q values z)
-kept_made q enables z values c none is there =
+    (λ v. map v z ≡ map (joined_bit v q enables values) (range_with_len 0 (length q)))
+kept_made q enables z values c none same is there =
     subst (λ (l : List ℕ). Makes (length q * (2 * (length enables + 1)) + (length enables + 1)) (q ++ (enables ++ all_nets values)) c c l
-    (λ v. Takes v (length enables) (λ i. v (get_or enables i 0)) q values l)) (sym is)
+    (λ v. map v l ≡ map (joined_bit v q enables values) (range_with_len 0 (length q)))) (sym is)
     (Makes-holds (Makes-none c (q ++ (enables ++ all_nets values)) q there (Over-left q (enables ++ all_nets values))) (omega arith)
-    (λ v nothing. record { kept = λ off. refl; taken = λ i within is_on alone. absurd (omega (arith, within, none)) }))
+    (λ v nothing. none_joined v q enables values none same))
+
+-- what a register takes
+pub takes_joined : (v : ℕ → Bool) (n : ℕ) (q enables next : List ℕ) (values : List (List ℕ)) → length values ≡ length enables → AreValues n (length q) values
+    → map v next ≡ map (joined_bit v q enables values) (range_with_len 0 (length q)) → Takes v (length enables) (λ i. v (get_or enables i 0)) q values next
+takes_joined v n q enables next values same each is = record {
+  kept = λ off.
+      let all_off : AllOff (map v enables) = (λ i within. map_bits v enables i (omega (arith, within, length-map enables v)) ∙ off i (omega (arith, within, length-map enables v))) in
+      next_kept v q enables next values same all_off is;
+  taken = λ i within is_on alone.
+      let one_on : OneOn (map v enables) i = record {
+        within = omega (arith, within, length-map enables v);
+        is_on = map_bits v enables i within ∙ is_on;
+        alone = λ j at on. alone j (omega (arith, at, length-map enables v)) (sym (map_bits v enables j (omega (arith, at, length-map enables v))) ∙ on);
+      } in
+      next_taken v q enables next values i same ((each i [] (omega (arith, within, same))).width) one_on is;
+}

@@ -6,3 +6,4 @@ pub mod Taken
 pub mod Added
 pub mod Elements
 pub mod Arrays
+pub mod Signals

@@ -1,3 +1,4 @@
 pub mod Takes
 pub mod Arrays
 pub mod Lines
+pub mod Signals

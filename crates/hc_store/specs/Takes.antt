@@ -1,5 +1,5 @@
 -- What a register or an element of an array is after an edge (that at most one write an edge counts is this project's own).
-use Rattle.std.specs.Prelude.{◌≡◌, ◌<◌, ℕ, ◌+◌, ◌*◌, List, [], ◌∷◌, ◌++◌, length, map, Bool, true, false, ◌&&◌, ◌||◌, slice_index_or, All}
+use Rattle.std.specs.Prelude.{◌≡◌, ◌<◌, ℕ, ◌+◌, ◌*◌, List, [], ◌∷◌, ◌++◌, length, map, Bool, true, false, not, ◌&&◌, ◌||◌, slice_index_or, All}
 use Rattle.std.specs.List.{flat_map}
 
 -- Of so many writes those that are on say what the next bits are: the present ones where none is on, and those of the one
@@ -29,6 +29,15 @@ abbrev pub some_both : List Bool → List Bool → Bool
 some_both (x ∷ xs) (y ∷ ys) = (x && y) || some_both xs ys
 some_both (x ∷ xs) [] = false
 some_both [] ys = false
+
+-- whether no bit is set
+abbrev pub none_of : List Bool → Bool
+none_of [] = true
+none_of (b ∷ bits) = not b && none_of bits
+
+-- bit i of the values that are on, joined by or, and of the present bits where none is on
+abbrev pub joined_bit : (ℕ → Bool) → List ℕ → List ℕ → List (List ℕ) → ℕ → Bool
+joined_bit v present enables values i = some_both (map v enables ++ none_of (map v enables) ∷ []) (map v (column_nets present values i))
 
 -- the gates of a register of so many bits that is written so many times: for each bit two for each write and two more, and
 -- one for each write and one more that tell whether none is on

@@ -1,7 +1,7 @@
 ghost use Rattle.std.specs.Prelude.{◌≡◌, ◌<◌, ◌≤◌, ◌+◌, ◌*◌, ◌^◌, ◌∷◌, [], ◌++◌, length, map, slice_index, All, IfOk};
 ghost use Rattle.std.specs.List.{range_with_len};
 ghost use Rattle.hc_net.specs.Made.{Makes};
-ghost use Rattle.hc_store.specs.Takes.{Takes, AreValues, all_nets, column_nets, some_both, hold_gates};
+ghost use Rattle.hc_store.specs.Takes.{Takes, AreValues, all_nets, column_nets, joined_bit, some_both, hold_gates};
 
 use hc_bits::{band, invert, truth};
 use hc_net::{Builder, Nets, NoMemory};
@@ -25,6 +25,26 @@ pub fn hold(
     ensures circuit { IfOk result (λ z. Makes (hold_gates (length q.now) (length enables.now)) (q.now ++ (enables.now ++ all_nets values.now)) b.old b.new z
         (λ v. Takes v (length enables.now) (λ i. v (slice_index enables.now i)) q.now values.now z)) }
 {
+    joined_bits(alloc, b, q, enables, values)
+}
+
+/// The values whose nets of `enables` are 1, joined bit by bit, or `q` where none is. Value i stands for enable i.
+pub(crate) fn joined_bits(
+    alloc: Global,
+    b: &mut Builder,
+    q: &Nets,
+    enables: &Nets,
+    values: &[Nets],
+) -> Result<Nets, NoMemory>
+    requires present { All (λ k. k < length b.old.nodes) q.now }
+    requires enables { All (λ k. k < length b.old.nodes) enables.now }
+    requires values { AreValues (length b.old.nodes) (length q.now) values.now }
+    requires writes { length values.now ≡ length enables.now }
+    requires room { length b.old.nodes + hold_gates (length q.now) (length enables.now) < 2 ^ 32 }
+    ensures width { IfOk result (λ z. length z ≡ length q.now) }
+    ensures circuit { IfOk result (λ z. Makes (hold_gates (length q.now) (length enables.now)) (q.now ++ (enables.now ++ all_nets values.now)) b.old b.new z
+        (λ v. map v z ≡ map (joined_bit v q.now enables.now values.now) (range_with_len 0 (length q.now)))) }
+{
     if enables.is_empty() {
         return Nets::from_slice(alloc, q.as_slice());
     }
@@ -46,7 +66,7 @@ fn joined(alloc: Global, low: &Nets, high: &Nets) -> Result<Nets, NoMemory>
 }
 
 /// Each bit, by the choices: those of the values in order, and then that of the present bits.
-fn next_bits(
+pub(crate) fn next_bits(
     alloc: Global,
     b: &mut Builder,
     choices: &Nets,
