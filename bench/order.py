@@ -42,7 +42,7 @@ def loops(n, cyclic):
     """n assignments of signals within 190 nested loops, whose conditions read the first signal where there is to be a cycle."""
     condition = "s0" if cyclic else "c"
     return source(["unsigned 1 c; unsigned 1 x; signal unsigned 1 s0; signal unsigned 1 s1;"],
-                  ["do " * 190 + "{"] + ["s0 = x; s1 = s0;" if k % 2 else "s1 = x;" for k in range(n)] + ["}" + f" while ({condition});" * 190])
+                  ["do " * 190 + "{"] + ["s1 = x;" if k % 2 else "s0 = x; s1 = s0;" for k in range(n)] + ["}" + f" while ({condition});" * 190])
 
 
 # each shape with the greatest size

@@ -8,8 +8,6 @@ from pages import expanded, sections
 from programs import TOP, Failure
 
 RULES = [f"S{i}" for i in range(1, 25)] + [f"L{i}" for i in range(1, 10)]
-# Rules that are judged once their forms are built; NotBuilt stands in their place until then.
-LATER = {"S17"}
 NOT_BUILT = re.compile(rb"refused NotBuilt at \d+:\d+\n")
 ACCEPTED = re.compile(rb"objects \d+, weight \d+, flip-flops \d+\n")
 SMALL = """(edif hc (edifVersion 2 0 0) (edifLevel 0) (keywordMap (keywordLevel 0))
@@ -67,7 +65,7 @@ def test_refusals(programs):
             status, line = checked(programs, wrong)
             if not answer.startswith(f"refused {rule} at "):
                 yield f"{rule}: the line is {answer}"
-            if (status, line) != (1, answer.encode()) and not (rule in LATER and NOT_BUILT.fullmatch(line)):
+            if (status, line) != (1, answer.encode()):
                 yield f"{rule}: status {status}, {line}, not {answer}"
             status, line = checked(programs, right)
             if not (status == 0 and ACCEPTED.fullmatch(line)) and not (NOT_BUILT.fullmatch(line) and rule != "NotBuilt"):

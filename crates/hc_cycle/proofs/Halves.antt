@@ -1,5 +1,5 @@
 -- The number of a node among pairs in the order of nodes.
-use Rattle.std.proofs.Common.{◌≡◌, ◌≢◌, ◌⊎◌, inl, inr, subst, ◌<◌, ◌≤◌, ℕ, zero, suc, ◌+◌, ◌*◌, List, [], ◌∷◌, Option, Some, None, length, get_or, Bool, true, false, refl, sym, ap, ◌∙◌, arith, eq-eqb, if◌then◌else◌, ◌==◌}
+use Rattle.std.proofs.Common.{◌≡◌, ◌≢◌, inl, inr, subst, ◌<◌, ◌≤◌, ℕ, zero, suc, ◌+◌, ◌*◌, List, [], ◌∷◌, Option, Some, None, length, get_or, Bool, true, false, refl, sym, ap, arith, eq-eqb, if◌then◌else◌}
 use Rattle.std.proofs.lemmas.List.{get_or_default}
 use Rattle.std.proofs.lemmas.Bool.{cases_lt, eqb-true}
 use Rattle.hc_tree.specs.declared.refusal.Node.{Node}
@@ -7,7 +7,7 @@ use Rattle.hc_tree.specs.declared.refusal.Node.TheVariants.{Value, Sends, Receiv
 use Rattle.hc_cycle.specs.Ranks.{is_same, rank_of, number_of, AreInOrder}
 
 -- two nodes are the same where their numbers are
-same_by_number : (a b : Node) → (is_same a b ≡ true → number_of a ≡ number_of b) × (number_of a ≡ number_of b → is_same a b ≡ true)
+pub same_by_number : (a b : Node) → (is_same a b ≡ true → number_of a ≡ number_of b) × (number_of a ≡ number_of b → is_same a b ≡ true)
 same_by_number (Value j) (Value k) = (λ e. let f : j ≡ k = eqb-true j k e in ap (λ n. 3 * n) f, λ e. eq-eqb j k (omega arith))
 same_by_number (Value j) (Sends k) = (λ e. absurd cc, λ e. absurd (omega arith))
 same_by_number (Value j) (Receives k) = (λ e. absurd cc, λ e. absurd (omega arith))

@@ -1,14 +1,14 @@
 -- Worked rows of orders: two signals of which one depends on the other have one, and the same numbers the other way round
 -- are none.
-use Rattle.std.proofs.Common.{◌≡◌, ◌≢◌, ◌<◌, ◌-◌, ◌^◌, ◌%◌, ℕ, zero, suc, List, [], ◌∷◌, map, false, refl, sym, ap, ◌∙◌, subst, arith, lit<, get_or, length}
+use Rattle.std.proofs.Common.{◌≡◌, ◌≢◌, ◌<◌, ◌-◌, ◌^◌, ◌%◌, ℕ, zero, suc, List, [], ◌∷◌, false, refl, sym, ap, ◌∙◌, subst, arith, lit<}
 use Rattle.std.specs.Prelude.{AllPairs, All}
 use Rattle.std.specs.List.{Contains}
 use Rattle.hc_num.specs.Number.{Number}
 use Rattle.hc_tree.specs.declared.place.Place.{Place}
 use Rattle.hc_tree.specs.declared.refusal.Node.{Node}
-use Rattle.hc_tree.specs.declared.refusal.Node.TheVariants.{Value, Sends, Receives}
+use Rattle.hc_tree.specs.declared.refusal.Node.TheVariants.{Value}
 use Rattle.hc_core.specs.Read.{expression, target, statement}
-use Rattle.hc_core.specs.Depends.{Need, needs_of, nodes_of, Depends, IsOrder, place_of}
+use Rattle.hc_core.specs.Depends.{Need, needs_of, Depends, IsOrder, place_of}
 use Rattle.hc_core.specs.declared.expr.Expr.TheVariants as e
 use Rattle.hc_core.specs.declared.stmt.Stmt.TheVariants as sv
 use Rattle.hc_core.specs.declared.stmt.Target.TheVariants as tv

@@ -1,1 +1,5 @@
 pub mod Ranks
+pub mod Sets
+pub mod Links
+pub mod Order
+pub mod Found

@@ -67,7 +67,7 @@ fn rank_in(pairs: &[(Node, u32)], node: Node) -> Option<u32>
 }
 
 /// The number of a node in the order of nodes.
-fn number_of(node: Node) -> u64
+pub(crate) fn number_of(node: Node) -> u64
     ensures { result ≡ number_of node }
 {
     match node {

@@ -1,25 +1,18 @@
--- A core that breaks no rule, is light enough and is of built forms can be built, and nothing in it has a value within a clock.
-use Rattle.std.proofs.Common.{◌≡◌, ℕ, suc, ◌+◌, ◌≤◌, List, [], ◌∷◌, ◌++◌, true, false, Option, Some, None, refl, ap, ◌∙◌}
-use Rattle.std.specs.Prelude.{slice_get}
+-- A core that breaks no rule, is light enough and is of built forms can be built.
+use Rattle.std.proofs.Common.{◌≡◌, ℕ, ◌≤◌, List, Option, Some, None, refl}
 use Rattle.hc_tree.specs.declared.place.Place.{Place}
 use Rattle.hc_tree.specs.declared.refusal.Refusal.{Refusal}
 use Rattle.hc_tree.specs.declared.refusal.Rule.{Rule}
 use Rattle.hc_tree.specs.declared.refusal.Rule.TheVariants.{S16, S18, S19, S20, S21, S22}
-use Rattle.hc_core.specs.Depends.{nodes_of}
 use Rattle.hc_core.specs.FirstPlace.{first_of, first_where, first_object, first_found}
-use Rattle.hc_core.specs.Instant.{kind_nodes, nodes_from}
 use Rattle.hc_core.specs.Read.{statement}
 use Rattle.hc_core.specs.Rules.{first_broken, or_else, refusal_of, endless, both_cases, two_cases, accessed_twice, in_an_output, in_a_case, repeats_label, by_no_object, by_no_statement}
 use Rattle.hc_core.specs.Sound.{IsSound}
-use Rattle.hc_core.specs.Typed.{kinds_of}
 use Rattle.hc_core.specs.Weight.{weight_of}
 use Rattle.hc_core.specs.declared.object.Object.{Object}
 use Rattle.hc_core.specs.declared.object.Core.{Core}
-use Rattle.hc_core.specs.declared.object.Kind.{Kind}
-use Rattle.hc_core.specs.declared.object.Kind.TheVariants as kind
 use Rattle.hc_rules.specs.Weight.{most_weight}
-use Rattle.hc_build.specs.Built.{is_built_kind, unbuilt, IsBuildable}
-use Rattle.hc_build.proofs.Program.{core_kinds}
+use Rattle.hc_build.specs.Built.{unbuilt, IsBuildable}
 
 -- ---- a core that breaks no rule
 
@@ -47,24 +40,3 @@ pub buildable : (core : Core) → IsSound core → first_broken core ≡ None �
 buildable core sound rules light built =
     let both = kept_rules core rules in
     record { sound = sound; light = light; loops = both.0; labels = both.1; built = built }
-
--- ---- a core of built forms has no nodes
-
-no_kind_nodes : (k : ℕ) (x : Kind) → is_built_kind x ≡ true → kind_nodes k x ≡ []
-no_kind_nodes k (kind.Reg w s init) h = refl
-no_kind_nodes k (kind.Array w s n init) h = refl
-no_kind_nodes k (kind.Ram w s n init) h = absurd (let no : false ≡ true = h in cc)
-no_kind_nodes k (kind.Rom w s n init) h = absurd (let no : false ≡ true = h in cc)
-no_kind_nodes k (kind.Signal w s unset) h = absurd (let no : false ≡ true = h in cc)
-no_kind_nodes k (kind.Chan w s queue) h = absurd (let no : false ≡ true = h in cc)
-no_kind_nodes k (kind.Input w s pins) h = refl
-no_kind_nodes k (kind.Output w s pins value) h = refl
-
-no_nodes_from : (k : ℕ) (kinds : List Kind) → ((n : ℕ) (x : Kind) → slice_get kinds n ≡ Some x → is_built_kind x ≡ true) → nodes_from k kinds ≡ []
-no_nodes_from k [] h = refl
-no_nodes_from k (x ∷ kinds) h =
-    ap (λ nodes. nodes ++ nodes_from (k + 1) kinds) (no_kind_nodes k x (h 0 x refl))
-    ∙ no_nodes_from (k + 1) kinds (λ n y e. h (suc n) y e)
-
-pub no_nodes : (core : Core) → IsBuildable core → nodes_of core ≡ []
-no_nodes core can = no_nodes_from 0 (kinds_of core.objects) (core_kinds core can)

@@ -12,7 +12,7 @@ use Rattle.hc_run.specs.declared.status.Role.TheVariants.{Source}
 use Rattle.hc_run.specs.declared.status.Status.{Status}
 use Rattle.hc_run.specs.declared.status.Status.TheVariants.{Done, Refused, Usage, ReadFault, WriteFault, NoMemory, Longer}
 use Rattle.hc_run.specs.Words.{IsBuild, IsCheck, Loads, to_build, to_check, HasNoJob}
-use Rattle.hc_run.specs.Answer.{source_limit, Accepted, First, Compiles, HasChecked, IsWriteFault, IsNoMemory, IsDue, IsCutOff, Prints, MovesCounts, HasFile, LineFails, LoadFails, KeepsFiles}
+use Rattle.hc_run.specs.Answer.{source_limit, Accepted, First, AreAlike, Compiles, HasChecked, IsWriteFault, IsNoMemory, IsDue, IsCutOff, Prints, MovesCounts, HasFile, LineFails, LoadFails, KeepsFiles, RefusesAs}
 use Rattle.hc_run.specs.Steps.{Reports, written, stopped_by_fault, stopped_by_memory, Answers, told, fault, no_memory, cut_by_fault, cut_by_memory}
 use Rattle.hc_run.proofs.Jobs.{SameFiles-none}
 
@@ -207,9 +207,9 @@ longer_where words old new out out' result h file bytes job there over =
 
 -- a source that is refused
 
--- the laws of sources: one first refusal, and none where there is a core
+-- the laws of sources: first refusals are alike, and there is none where there is a core
 abbrev pub OneFirst : Type 0
-OneFirst = (bytes : List ℕ) (refusal other : Refusal) → First bytes refusal → First bytes other → refusal ≡ other
+OneFirst = (bytes : List ℕ) (refusal other : Refusal) → First bytes refusal → First bytes other → AreAlike refusal other
 
 abbrev pub NeverBoth : Type 0
 NeverBoth = (bytes : List ℕ) (core : Core) (refusal : Refusal) → Accepted bytes core → First bytes refusal → ⊥
@@ -219,12 +219,12 @@ compiles-refused both words old bytes name raw refusal given first h =
     both bytes h.core refusal (subst (λ (b : List ℕ). Accepted b h.core) (given_compiles words old bytes name raw given h) h.accepted) first
 
 refused_due : OneFirst → NeverBoth → (words : List (List ℕ)) (old new : StoreState) (bytes : List ℕ) (refusal : Refusal) → Given words old bytes → length bytes ≤ source_limit → First bytes refusal
-    → (due : Status) (line : List ℕ) → IsDue words old new due line → (due ≡ Refused refusal) ⊎ LoadFails old new due
+    → (due : Status) (line : List ℕ) → IsDue words old new due line → RefusesAs refusal due ⊎ LoadFails old new due
 refused_due one both words old new bytes refusal given within first Done line (inl h) = absurd (compiles-refused both words old bytes h.name h.raw refusal given first h.compiles)
 refused_due one both words old new bytes refusal given within first Done line (inr h) =
     absurd (both bytes h.core refusal (subst (λ (b : List ℕ). Accepted b h.core) (given_checked words old new bytes line given h) h.accepted) first)
 refused_due one both words old new bytes refusal given within first (Refused other) line h =
-    inl (ap Refused (one bytes other refusal (subst (λ (b : List ℕ). First b other) (given_bytes words old bytes h.file h.bytes given h.job h.source) h.first) first))
+    inl (one bytes other refusal (subst (λ (b : List ℕ). First b other) (given_bytes words old bytes h.file h.bytes given h.job h.source) h.first) first)
 refused_due one both words old new bytes refusal given within first Usage line h = absurd (h.no_job _ given.job)
 refused_due one both words old new bytes refusal given within first (ReadFault role) line h = inr (given_fault words old new bytes h.file given h.job h.cause)
 refused_due one both words old new bytes refusal given within first (Longer role) line h =
@@ -234,10 +234,10 @@ refused_due one both words old new bytes refusal given within first NoMemory lin
 
 pub refused_where : OneFirst → NeverBoth → (words : List (List ℕ)) (old new : StoreState) (out out' : SinkState) (result : Status)
     → Answers words old new out out' result → (file bytes : List ℕ) (refusal : Refusal) → Loads words file → HasFile old.disk file bytes → length bytes ≤ source_limit → First bytes refusal
-    → (result ≡ Refused refusal) ⊎ LoadFails old new result ⊎ LineFails out out' result
+    → RefusesAs refusal result ⊎ LoadFails old new result ⊎ LineFails out out' result
 refused_where one both words old new out out' result h file bytes refusal job there within first =
     let given : Given words old bytes = record { file = file; job = job; there = there } in
-    split (where_due words old new out out' result (λ s. (s ≡ Refused refusal) ⊎ LoadFails old new s) (refused_due one both words old new bytes refusal given within first)
+    split (where_due words old new out out' result (λ s. RefusesAs refusal s ⊎ LoadFails old new s) (refused_due one both words old new bytes refusal given within first)
     (λ w. compiles-refused both words old bytes w.name w.raw refusal given first w.compiles) h)
 
 -- completeness

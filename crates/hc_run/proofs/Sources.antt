@@ -2,6 +2,7 @@
 use Rattle.std.proofs.Common.{◌≡◌, ◌⊎◌, inl, inr, ℕ, ◌≤◌, ◌<◌, List, Option, Some, None, Result, Ok, Err, IfOk, IfErr, refl, sym, subst, ap, ◌∙◌, arith}
 use Rattle.std.proofs.lemmas.Bool.{cases_lt}
 use Rattle.std.specs.List.{All}
+use Rattle.hc_core.specs.Depends.{Cyclic}
 use Rattle.hc_core.specs.Weight.{weight_of}
 use Rattle.hc_core.specs.declared.object.Core.{Core}
 use Rattle.hc_lex.specs.Lexes.{Lexes, Stops, HasTokens, HasBreach, IsPlain}
@@ -19,8 +20,9 @@ use Rattle.hc_parse.specs.Parsed.{Parses, FirstRefusal, HasTree, HasFirst}
 use Rattle.hc_scope.specs.Expands as expansion
 use Rattle.hc_expand.specs.Spelled.{IsSpelled}
 use Rattle.hc_core.specs.Rules.{first_broken}
+use Rattle.hc_cycle.specs.Order.{NamesCycle}
 use Rattle.hc_rules.specs.Weight.{most_weight, too_heavy}
-use Rattle.hc_run.specs.Answer.{IsSource, Accepted, BreaksTokens, FirstOfCore, of_rule, of_weight, of_form, not_built, FirstOfTokens, of_grammar, of_tree, of_core, First, of_bytes, of_tokens, IfRefusal, HasCore, HasRefusal}
+use Rattle.hc_run.specs.Answer.{IsSource, Accepted, BreaksTokens, AreAlike, FirstOfCore, of_rule, of_cycle, of_weight, of_form, not_built, FirstOfTokens, of_grammar, of_tree, of_core, First, of_bytes, of_tokens, IfRefusal, HasCore, HasRefusal}
 use Rattle.hc_build.specs.Built.{unbuilt, IsBuildable}
 use Rattle.hc_run.specs.Weighed.{Weighs, TokensWeigh, TreeWeighs}
 use Rattle.hc_run.specs.Source.{IsTreeOf, FirstOfTree, of_expansion, of_expanded, IsUnbuilt}
@@ -44,7 +46,7 @@ refused bytes h (Err NoMemory) f = tt
 -- ---- what is read of the tree is so of the tokens
 
 pub source : (ts : List Placed) (tree : Tree) → Parses ts tree → (result : Result Core FrontErr) → IfOk result (IsTreeOf tree) → IfOk result (IsSource ts)
-source ts tree parses (Ok core) e = record { has_tree = record { tree = tree; parses = parses }; expands = e.expands; rules = e.rules; light = e.light; built = e.built }
+source ts tree parses (Ok core) e = record { has_tree = record { tree = tree; parses = parses }; expands = e.expands; rules = e.rules; acyclic = e.acyclic; light = e.light; built = e.built }
 source ts tree parses (Err e) f = tt
 
 broken_tree : (ts : List Placed) (end : Place) (tree : Tree) → Parses ts tree → (refusal : Refusal) → FirstOfTree tree refusal → FirstOfTokens ts end refusal
@@ -61,9 +63,9 @@ broken ts end tree parses (Err NoMemory) f = tt
 -- ---- what is read of the core is so of the tree
 
 pub tree_of : (tree : Tree) (core : Core) → expansion.Expands tree core → (result : Result Core FrontErr) → IfOk result (λ found. found ≡ core) → IfOk result (λ found. first_broken found ≡ None)
-    → IfOk result IsBuildable → IfOk result (IsTreeOf tree)
-tree_of tree core expands (Ok found) same rules buildable = record { expands = subst (λ (c : Core). expansion.Expands tree c) (sym same) expands; rules = rules; light = buildable.light; built = buildable.built }
-tree_of tree core expands (Err e) same rules buildable = tt
+    → IfOk result (λ found. Cyclic found → ⊥) → IfOk result IsBuildable → IfOk result (IsTreeOf tree)
+tree_of tree core expands (Ok found) same rules acyclic buildable = record { expands = subst (λ (c : Core). expansion.Expands tree c) (sym same) expands; rules = rules; acyclic = acyclic; light = buildable.light; built = buildable.built }
+tree_of tree core expands (Err e) same rules acyclic buildable = tt
 
 pub broken_core : (tree : Tree) (core : Core) → expansion.Expands tree core → (result : Result Core FrontErr) → IfErr result (λ e. IfRefusal e (FirstOfCore core))
     → IfErr result (λ e. IfRefusal e (FirstOfTree tree))
@@ -72,9 +74,9 @@ broken_core tree core expands (Err (Refused refusal)) f = of_expanded core expan
 broken_core tree core expands (Err NoMemory) f = tt
 
 -- what of its form comes behind its weight
-pub broken_form : {A : Type 0} (core : Core) → first_broken core ≡ None → weight_of core ≤ most_weight → (result : Result A Refusal) → IfErr result (IsUnbuilt core) → IfErr result (FirstOfCore core)
-broken_form core rules light (Ok found) f = tt
-broken_form core rules light (Err refusal) f = of_form rules light f.place f.first f.is
+pub broken_form : {A : Type 0} (core : Core) → first_broken core ≡ None → (Cyclic core → ⊥) → weight_of core ≤ most_weight → (result : Result A Refusal) → IfErr result (IsUnbuilt core) → IfErr result (FirstOfCore core)
+broken_form core rules acyclic light (Ok found) f = tt
+broken_form core rules acyclic light (Err refusal) f = of_form rules acyclic light f.place f.first f.is
 
 -- ---- what is weighed
 
@@ -163,24 +165,32 @@ moved ts us end other refusal e f h = subst (λ a. FirstOfTokens us a refusal) f
 none_and_some : {A : Type 0} {o : Option A} {a : A} → o ≡ None → o ≡ Some a → ⊥
 none_and_some p q = cc
 
-sound_core : (core : Core) (refusal : Refusal) → first_broken core ≡ None → weight_of core ≤ most_weight → unbuilt core ≡ None → FirstOfCore core refusal → ⊥
-sound_core core refusal rules light built (of_rule broken) = none_and_some rules broken
-sound_core core refusal rules light built (of_weight kept heavy is) = omega arith
-sound_core core refusal rules light built (of_form kept within place first is) = none_and_some built first
+-- a refusal that names a cycle tells that some value reaches itself
+abbrev pub CyclesReach : Type 0
+CyclesReach = (core : Core) (refusal : Refusal) → NamesCycle core refusal → Cyclic core
 
-source_or_refusal : OneTree → NoRefusal → OneCore → NoStop → (ts : List Placed) (end : Place) (core : Core) (refusal : Refusal) → IsSource ts core → FirstOfTokens ts end refusal → ⊥
-source_or_refusal trees none one no_stop ts end core refusal h (of_grammar k) = none ts end h.has_tree.tree refusal h.has_tree.parses k
-source_or_refusal trees none one no_stop ts end core refusal h (of_tree k) =
+abbrev pub CycleOrNone : Type 0
+CycleOrNone = (core : Core) → ((refusal : Refusal) × NamesCycle core refusal) ⊎ (Cyclic core → ⊥)
+
+sound_core : CyclesReach → (core : Core) (refusal : Refusal) → first_broken core ≡ None → (Cyclic core → ⊥) → weight_of core ≤ most_weight → unbuilt core ≡ None → FirstOfCore core refusal → ⊥
+sound_core reach core refusal rules acyclic light built (of_rule broken) = none_and_some rules broken
+sound_core reach core refusal rules acyclic light built (of_cycle kept names) = acyclic (reach core refusal names)
+sound_core reach core refusal rules acyclic light built (of_weight kept none heavy is) = omega arith
+sound_core reach core refusal rules acyclic light built (of_form kept none within place first is) = none_and_some built first
+
+source_or_refusal : CyclesReach → OneTree → NoRefusal → OneCore → NoStop → (ts : List Placed) (end : Place) (core : Core) (refusal : Refusal) → IsSource ts core → FirstOfTokens ts end refusal → ⊥
+source_or_refusal reach trees none one no_stop ts end core refusal h (of_grammar k) = none ts end h.has_tree.tree refusal h.has_tree.parses k
+source_or_refusal reach trees none one no_stop ts end core refusal h (of_tree k) =
     no_stop k.has_tree.tree core refusal (moved_core _ _ _ (same_tree trees ts h.has_tree k.has_tree) h.expands) k.stops
-source_or_refusal trees none one no_stop ts end core refusal h (of_core k) =
+source_or_refusal reach trees none one no_stop ts end core refusal h (of_core k) =
     let same : k.core ≡ core = one k.has_tree.tree k.core core k.expands (moved_core _ _ _ (same_tree trees ts h.has_tree k.has_tree) h.expands) in
-    sound_core core refusal h.rules h.light h.built (subst (λ (c : Core). FirstOfCore c refusal) same k.breaks)
+    sound_core reach core refusal h.rules h.acyclic h.light h.built (subst (λ (c : Core). FirstOfCore c refusal) same k.breaks)
 
-pub never_both : OneReading → NotBoth → OneTree → NoRefusal → OneCore → NoStop → (bytes : List ℕ) (core : Core) (refusal : Refusal) → Accepted bytes core → First bytes refusal → ⊥
-never_both reading both trees none one no_stop bytes core refusal h (of_bytes k) = both 0 start bytes h.lexed (breach k)
-never_both reading both trees none one no_stop bytes core refusal h (of_tokens k) =
+pub never_both : CyclesReach → OneReading → NotBoth → OneTree → NoRefusal → OneCore → NoStop → (bytes : List ℕ) (core : Core) (refusal : Refusal) → Accepted bytes core → First bytes refusal → ⊥
+never_both reach reading both trees none one no_stop bytes core refusal h (of_bytes k) = both 0 start bytes h.lexed (breach k)
+never_both reach reading both trees none one no_stop bytes core refusal h (of_tokens k) =
     let same = same_tokens reading k.lexed h.lexed in
-    source_or_refusal trees none one no_stop h.lexed.tokens h.lexed.end core refusal h.source (moved k.lexed.tokens h.lexed.tokens k.lexed.end h.lexed.end refusal same.0 same.1 k.breaks)
+    source_or_refusal reach trees none one no_stop h.lexed.tokens h.lexed.end core refusal h.source (moved k.lexed.tokens h.lexed.tokens k.lexed.end h.lexed.end refusal same.0 same.1 k.breaks)
 
 -- ---- one first refusal
 
@@ -193,24 +203,31 @@ same_refusal {r} {s} a b c = ap (λ rule. refusal_of rule r.place r.detail) a �
 same_some : {A : Type 0} {o : Option A} {a b : A} → o ≡ Some a → o ≡ Some b → a ≡ b
 same_some p q = cc
 
-one_of_core : (core : Core) (refusal other : Refusal) → FirstOfCore core refusal → FirstOfCore core other → refusal ≡ other
-one_of_core core refusal other (of_rule first) (of_rule second) = same_some first second
-one_of_core core refusal other (of_rule first) (of_weight rules heavy is) = absurd (none_and_some rules first)
-one_of_core core refusal other (of_rule first) (of_form rules light place second is) = absurd (none_and_some rules first)
-one_of_core core refusal other (of_weight rules heavy is) (of_rule second) = absurd (none_and_some rules second)
-one_of_core core refusal other (of_weight rules heavy is) (of_weight kept more same) = is ∙ sym same
-one_of_core core refusal other (of_weight rules heavy is) (of_form kept light place first same) = absurd (omega arith)
-one_of_core core refusal other (of_form rules light place first is) (of_rule second) = absurd (none_and_some rules second)
-one_of_core core refusal other (of_form rules light place first is) (of_weight kept heavy same) = absurd (omega arith)
-one_of_core core refusal other (of_form rules light place first is) (of_form kept within behind second same) = is ∙ ap not_built (same_some first second) ∙ sym same
+one_of_core : CyclesReach → (core : Core) (refusal other : Refusal) → FirstOfCore core refusal → FirstOfCore core other → AreAlike refusal other
+one_of_core reach core refusal other (of_rule first) (of_rule second) = inl (same_some first second)
+one_of_core reach core refusal other (of_rule first) (of_cycle rules names) = absurd (none_and_some rules first)
+one_of_core reach core refusal other (of_rule first) (of_weight rules acyclic heavy is) = absurd (none_and_some rules first)
+one_of_core reach core refusal other (of_rule first) (of_form rules acyclic light place second is) = absurd (none_and_some rules first)
+one_of_core reach core refusal other (of_cycle rules names) (of_rule second) = absurd (none_and_some rules second)
+one_of_core reach core refusal other (of_cycle rules names) (of_cycle kept more) = inr (ap (λ (r : Refusal). r.rule) names.is, ap (λ (r : Refusal). r.rule) more.is)
+one_of_core reach core refusal other (of_cycle rules names) (of_weight kept acyclic heavy is) = absurd (acyclic (reach core refusal names))
+one_of_core reach core refusal other (of_cycle rules names) (of_form kept acyclic light place second is) = absurd (acyclic (reach core refusal names))
+one_of_core reach core refusal other (of_weight rules acyclic heavy is) (of_rule second) = absurd (none_and_some rules second)
+one_of_core reach core refusal other (of_weight rules acyclic heavy is) (of_cycle kept names) = absurd (acyclic (reach core other names))
+one_of_core reach core refusal other (of_weight rules acyclic heavy is) (of_weight kept none more same) = inl (is ∙ sym same)
+one_of_core reach core refusal other (of_weight rules acyclic heavy is) (of_form kept none light place first same) = absurd (omega arith)
+one_of_core reach core refusal other (of_form rules acyclic light place first is) (of_rule second) = absurd (none_and_some rules second)
+one_of_core reach core refusal other (of_form rules acyclic light place first is) (of_cycle kept names) = absurd (acyclic (reach core other names))
+one_of_core reach core refusal other (of_form rules acyclic light place first is) (of_weight kept none heavy same) = absurd (omega arith)
+one_of_core reach core refusal other (of_form rules acyclic light place first is) (of_form kept none within behind second same) = inl (is ∙ ap not_built (same_some first second) ∙ sym same)
 
-module _ (trees : OneTree) (one : OneRefusal) (none : NoRefusal) (cores : OneCore) (stops : OneStop) (no_stop : NoStop) where
-  one_of_tokens : (ts : List Placed) (end : Place) (refusal other : Refusal) → FirstOfTokens ts end refusal → FirstOfTokens ts end other → refusal ≡ other
-  one_of_tokens ts end refusal other (of_grammar h) (of_grammar k) = one ts end refusal other h k
+module _ (reach : CyclesReach) (trees : OneTree) (one : OneRefusal) (none : NoRefusal) (cores : OneCore) (stops : OneStop) (no_stop : NoStop) where
+  one_of_tokens : (ts : List Placed) (end : Place) (refusal other : Refusal) → FirstOfTokens ts end refusal → FirstOfTokens ts end other → AreAlike refusal other
+  one_of_tokens ts end refusal other (of_grammar h) (of_grammar k) = inl (one ts end refusal other h k)
   one_of_tokens ts end refusal other (of_grammar h) (of_tree k) = absurd (none ts end k.has_tree.tree refusal k.has_tree.parses h)
   one_of_tokens ts end refusal other (of_grammar h) (of_core k) = absurd (none ts end k.has_tree.tree refusal k.has_tree.parses h)
   one_of_tokens ts end refusal other (of_tree h) (of_grammar k) = absurd (none ts end h.has_tree.tree other h.has_tree.parses k)
-  one_of_tokens ts end refusal other (of_tree h) (of_tree k) = stops k.has_tree.tree refusal other (moved_stop _ _ _ (same_tree trees ts h.has_tree k.has_tree) h.stops) k.stops
+  one_of_tokens ts end refusal other (of_tree h) (of_tree k) = inl (stops k.has_tree.tree refusal other (moved_stop _ _ _ (same_tree trees ts h.has_tree k.has_tree) h.stops) k.stops)
   one_of_tokens ts end refusal other (of_tree h) (of_core k) =
       absurd (no_stop k.has_tree.tree k.core refusal k.expands (moved_stop _ _ _ (same_tree trees ts h.has_tree k.has_tree) h.stops))
   one_of_tokens ts end refusal other (of_core h) (of_grammar k) = absurd (none ts end h.has_tree.tree other h.has_tree.parses k)
@@ -218,12 +235,12 @@ module _ (trees : OneTree) (one : OneRefusal) (none : NoRefusal) (cores : OneCor
       absurd (no_stop k.has_tree.tree h.core other (moved_core _ _ _ (same_tree trees ts h.has_tree k.has_tree) h.expands) k.stops)
   one_of_tokens ts end refusal other (of_core h) (of_core k) =
       let same : h.core ≡ k.core = cores k.has_tree.tree h.core k.core (moved_core _ _ _ (same_tree trees ts h.has_tree k.has_tree) h.expands) k.expands in
-      one_of_core k.core refusal other (subst (λ (c : Core). FirstOfCore c refusal) same h.breaks) k.breaks
+      one_of_core reach k.core refusal other (subst (λ (c : Core). FirstOfCore c refusal) same h.breaks) k.breaks
 
-  pub one_first : OneReading → OneBreach → NotBoth → (bytes : List ℕ) (refusal other : Refusal) → First bytes refusal → First bytes other → refusal ≡ other
+  pub one_first : OneReading → OneBreach → NotBoth → (bytes : List ℕ) (refusal other : Refusal) → First bytes refusal → First bytes other → AreAlike refusal other
   one_first reading breaks both bytes refusal other (of_bytes h) (of_bytes k) =
       let same = breaks 0 start bytes refusal.rule other.rule refusal.place other.place h.stops k.stops in
-      same_refusal same.0 same.1 (h.detail ∙ sym k.detail)
+      inl (same_refusal same.0 same.1 (h.detail ∙ sym k.detail))
   one_first reading breaks both bytes refusal other (of_bytes h) (of_tokens k) = absurd (both 0 start bytes k.lexed (breach h))
   one_first reading breaks both bytes refusal other (of_tokens h) (of_bytes k) = absurd (both 0 start bytes h.lexed (breach k))
   one_first reading breaks both bytes refusal other (of_tokens h) (of_tokens k) =
@@ -232,37 +249,43 @@ module _ (trees : OneTree) (one : OneRefusal) (none : NoRefusal) (cores : OneCor
 
 -- ---- a core or a refusal
 
-of_built : (bytes : List ℕ) (h : HasTokens 0 start bytes) (t : HasTree h.tokens) (core : Core) → expansion.Expands t.tree core → first_broken core ≡ None → weight_of core ≤ most_weight
+of_built : (bytes : List ℕ) (h : HasTokens 0 start bytes) (t : HasTree h.tokens) (core : Core) → expansion.Expands t.tree core → first_broken core ≡ None → (Cyclic core → ⊥) → weight_of core ≤ most_weight
     → (o : Option Place) → unbuilt core ≡ o → HasCore bytes ⊎ HasRefusal bytes
-of_built bytes h t core expands rules light None e =
-    inl (record { core = core; accepted = record { lexed = h; source = record { has_tree = t; expands = expands; rules = rules; light = light; built = e } } })
-of_built bytes h t core expands rules light (Some place) e =
-    inr (record { refusal = not_built place; first = of_tokens (record { lexed = h; breaks = of_core (record { has_tree = t; core = core; expands = expands; breaks = of_form rules light place e refl }) }) })
+of_built bytes h t core expands rules acyclic light None e =
+    inl (record { core = core; accepted = record { lexed = h; source = record { has_tree = t; expands = expands; rules = rules; acyclic = acyclic; light = light; built = e } } })
+of_built bytes h t core expands rules acyclic light (Some place) e =
+    inr (record { refusal = not_built place; first = of_tokens (record { lexed = h; breaks = of_core (record { has_tree = t; core = core; expands = expands; breaks = of_form rules acyclic light place e refl }) }) })
 
-of_weighed : (bytes : List ℕ) (h : HasTokens 0 start bytes) (t : HasTree h.tokens) (core : Core) → expansion.Expands t.tree core → first_broken core ≡ None
+of_weighed : (bytes : List ℕ) (h : HasTokens 0 start bytes) (t : HasTree h.tokens) (core : Core) → expansion.Expands t.tree core → first_broken core ≡ None → (Cyclic core → ⊥)
     → (most_weight < weight_of core) ⊎ (weight_of core ≤ most_weight) → HasCore bytes ⊎ HasRefusal bytes
-of_weighed bytes h t core expands rules (inr light) = of_built bytes h t core expands rules light (unbuilt core) refl
-of_weighed bytes h t core expands rules (inl heavy) =
-    inr (record { refusal = too_heavy; first = of_tokens (record { lexed = h; breaks = of_core (record { has_tree = t; core = core; expands = expands; breaks = of_weight rules heavy refl }) }) })
+of_weighed bytes h t core expands rules acyclic (inr light) = of_built bytes h t core expands rules acyclic light (unbuilt core) refl
+of_weighed bytes h t core expands rules acyclic (inl heavy) =
+    inr (record { refusal = too_heavy; first = of_tokens (record { lexed = h; breaks = of_core (record { has_tree = t; core = core; expands = expands; breaks = of_weight rules acyclic heavy refl }) }) })
 
-of_ruled : (bytes : List ℕ) (h : HasTokens 0 start bytes) (t : HasTree h.tokens) (core : Core) → expansion.Expands t.tree core → (o : Option Refusal) → first_broken core ≡ o
+of_valued : (bytes : List ℕ) (h : HasTokens 0 start bytes) (t : HasTree h.tokens) (core : Core) → expansion.Expands t.tree core → first_broken core ≡ None
+    → ((refusal : Refusal) × NamesCycle core refusal) ⊎ (Cyclic core → ⊥) → HasCore bytes ⊎ HasRefusal bytes
+of_valued bytes h t core expands rules (inr acyclic) = of_weighed bytes h t core expands rules acyclic (cases_lt most_weight (weight_of core))
+of_valued bytes h t core expands rules (inl c) =
+    inr (record { refusal = c.0; first = of_tokens (record { lexed = h; breaks = of_core (record { has_tree = t; core = core; expands = expands; breaks = of_cycle rules c.1 }) }) })
+
+of_ruled : CycleOrNone → (bytes : List ℕ) (h : HasTokens 0 start bytes) (t : HasTree h.tokens) (core : Core) → expansion.Expands t.tree core → (o : Option Refusal) → first_broken core ≡ o
     → HasCore bytes ⊎ HasRefusal bytes
-of_ruled bytes h t core expands None e = of_weighed bytes h t core expands e (cases_lt most_weight (weight_of core))
-of_ruled bytes h t core expands (Some refusal) e =
+of_ruled cycles bytes h t core expands None e = of_valued bytes h t core expands e (cycles core)
+of_ruled cycles bytes h t core expands (Some refusal) e =
     inr (record { refusal = refusal; first = of_tokens (record { lexed = h; breaks = of_core (record { has_tree = t; core = core; expands = expands; breaks = of_rule e }) }) })
 
-of_expansion_or : (bytes : List ℕ) (h : HasTokens 0 start bytes) (t : HasTree h.tokens) → ((core : Core) × expansion.Expands t.tree core) ⊎ ((refusal : Refusal) × expansion.Stops t.tree refusal)
+of_expansion_or : CycleOrNone → (bytes : List ℕ) (h : HasTokens 0 start bytes) (t : HasTree h.tokens) → ((core : Core) × expansion.Expands t.tree core) ⊎ ((refusal : Refusal) × expansion.Stops t.tree refusal)
     → HasCore bytes ⊎ HasRefusal bytes
-of_expansion_or bytes h t (inl k) = of_ruled bytes h t k.0 k.1 (first_broken k.0) refl
-of_expansion_or bytes h t (inr k) = inr (record { refusal = k.0; first = of_tokens (record { lexed = h; breaks = of_tree (record { has_tree = t; stops = k.1 }) }) })
+of_expansion_or cycles bytes h t (inl k) = of_ruled cycles bytes h t k.0 k.1 (first_broken k.0) refl
+of_expansion_or cycles bytes h t (inr k) = inr (record { refusal = k.0; first = of_tokens (record { lexed = h; breaks = of_tree (record { has_tree = t; stops = k.1 }) }) })
 
-of_tree_or_refusal : CoreOrStop → (bytes : List ℕ) (h : HasTokens 0 start bytes) → HasTree h.tokens ⊎ HasFirst h.tokens h.end → HasCore bytes ⊎ HasRefusal bytes
-of_tree_or_refusal cores bytes h (inl t) = of_expansion_or bytes h t (cores t.tree)
-of_tree_or_refusal cores bytes h (inr f) = inr (record { refusal = f.refusal; first = of_tokens (record { lexed = h; breaks = of_grammar f.first }) })
+of_tree_or_refusal : CycleOrNone → CoreOrStop → (bytes : List ℕ) (h : HasTokens 0 start bytes) → HasTree h.tokens ⊎ HasFirst h.tokens h.end → HasCore bytes ⊎ HasRefusal bytes
+of_tree_or_refusal cycles cores bytes h (inl t) = of_expansion_or cycles bytes h t (cores t.tree)
+of_tree_or_refusal cycles cores bytes h (inr f) = inr (record { refusal = f.refusal; first = of_tokens (record { lexed = h; breaks = of_grammar f.first }) })
 
-either_by : TreeOrRefusal → CoreOrStop → (bytes : List ℕ) → HasTokens 0 start bytes ⊎ HasBreach 0 start bytes → HasCore bytes ⊎ HasRefusal bytes
-either_by trees cores bytes (inl h) = of_tree_or_refusal cores bytes h (trees h.tokens h.end)
-either_by trees cores bytes (inr h) = inr (record { refusal = refusal_of h.rule h.place Nothing; first = of_bytes (record { stops = h.stops; detail = refl }) })
+either_by : CycleOrNone → TreeOrRefusal → CoreOrStop → (bytes : List ℕ) → HasTokens 0 start bytes ⊎ HasBreach 0 start bytes → HasCore bytes ⊎ HasRefusal bytes
+either_by cycles trees cores bytes (inl h) = of_tree_or_refusal cycles cores bytes h (trees h.tokens h.end)
+either_by cycles trees cores bytes (inr h) = inr (record { refusal = refusal_of h.rule h.place Nothing; first = of_bytes (record { stops = h.stops; detail = refl }) })
 
-pub core_or_refusal : OneOf → TreeOrRefusal → CoreOrStop → (bytes : List ℕ) → HasCore bytes ⊎ HasRefusal bytes
-core_or_refusal lexes trees cores bytes = either_by trees cores bytes (lexes 0 start bytes (omega arith))
+pub core_or_refusal : CycleOrNone → OneOf → TreeOrRefusal → CoreOrStop → (bytes : List ℕ) → HasCore bytes ⊎ HasRefusal bytes
+core_or_refusal cycles lexes trees cores bytes = either_by cycles trees cores bytes (lexes 0 start bytes (omega arith))

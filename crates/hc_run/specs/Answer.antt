@@ -13,13 +13,15 @@ use Rattle.hc_tree.specs.declared.place.Place.{Place}
 use Rattle.hc_parse.specs.Parsed.{HasTree, FirstRefusal}
 use Rattle.hc_tree.specs.declared.refusal.FrontErr.{FrontErr}
 use Rattle.hc_tree.specs.declared.refusal.FrontErr.TheVariants as front
-use Rattle.hc_tree.specs.declared.refusal.Rule.TheVariants.{NotBuilt}
+use Rattle.hc_tree.specs.declared.refusal.Rule.TheVariants.{S17, NotBuilt}
 use Rattle.hc_tree.specs.declared.refusal.Detail.TheVariants.{Nothing}
 use Rattle.hc_tree.specs.declared.refusal.Refusal.{Refusal}
+use Rattle.hc_core.specs.Depends.{Cyclic}
 use Rattle.hc_core.specs.Weight.{weight_of, flops_of}
 use Rattle.hc_core.specs.declared.object.Core.{Core}
 use Rattle.hc_scope.specs.Expands as tree
 use Rattle.hc_core.specs.Rules.{first_broken}
+use Rattle.hc_cycle.specs.Order.{NamesCycle}
 use Rattle.hc_rules.specs.Weight.{most_weight, too_heavy}
 use Rattle.hc_net.specs.declared.net.RawNet.{RawNet}
 use Rattle.hc_net.specs.Run.{gate_count, ram_count}
@@ -38,12 +40,13 @@ use Rattle.hc_run.specs.Lines.{built_line, checked_line, usage_line, read_fault_
 abbrev pub source_limit : ℕ
 source_limit = 4194304
 
--- The tokens have a tree that expands to this core, which breaks no rule over the core, is within the limit of the weight and is
--- of built forms alone.
+-- The tokens have a tree that expands to this core, which breaks no rule over the core, has no value within a clock that reaches
+-- itself, is within the limit of the weight and is of built forms alone.
 pub record IsSource (tokens : List Placed) (core : Core) : Type 0 where
   pub has_tree : HasTree tokens
   pub expands : tree.Expands has_tree.tree core
   pub rules : first_broken core ≡ None
+  pub acyclic : Cyclic core → ⊥
   pub light : weight_of core ≤ most_weight
   pub built : unbuilt core ≡ None
 
@@ -61,12 +64,13 @@ pub record BreaksTokens (bytes : List ℕ) (refusal : Refusal) : Type 0 where
 abbrev pub not_built : Place → Refusal
 not_built place = record { rule = NotBuilt; place = place; detail = Nothing }
 
--- A core breaks a rule, and this refusal comes first: that of the rules over the core, then the limit of the weight, then the first
--- form that isn't built.
+-- A core breaks a rule, and this refusal comes first: that of the rules over the core, then one that names a cycle of values within
+-- a clock, then the limit of the weight, then the first form that isn't built.
 pub data FirstOfCore (core : Core) (refusal : Refusal) : Type 0 where
   of_rule : first_broken core ≡ Some refusal → FirstOfCore core refusal
-  of_weight : first_broken core ≡ None → most_weight < weight_of core → refusal ≡ too_heavy → FirstOfCore core refusal
-  of_form : first_broken core ≡ None → weight_of core ≤ most_weight → (place : Place) → unbuilt core ≡ Some place → refusal ≡ not_built place → FirstOfCore core refusal
+  of_cycle : first_broken core ≡ None → NamesCycle core refusal → FirstOfCore core refusal
+  of_weight : first_broken core ≡ None → (Cyclic core → ⊥) → most_weight < weight_of core → refusal ≡ too_heavy → FirstOfCore core refusal
+  of_form : first_broken core ≡ None → (Cyclic core → ⊥) → weight_of core ≤ most_weight → (place : Place) → unbuilt core ≡ Some place → refusal ≡ not_built place → FirstOfCore core refusal
 
 -- The tokens have a tree, which breaks a rule or limit before it has a core; this refusal is the first.
 pub record BreaksTree (tokens : List Placed) (refusal : Refusal) : Type 0 where
@@ -96,6 +100,10 @@ pub record BreaksSource (bytes : List ℕ) (refusal : Refusal) : Type 0 where
 pub data First (bytes : List ℕ) (refusal : Refusal) : Type 0 where
   of_bytes : BreaksTokens bytes refusal → First bytes refusal
   of_tokens : BreaksSource bytes refusal → First bytes refusal
+
+-- two refusals that are one, or name two cycles
+abbrev pub AreAlike : Refusal → Refusal → Type 0
+AreAlike first second = (first ≡ second) ⊎ ((first.rule ≡ S17) × (second.rule ≡ S17))
 
 -- a refusal of which this holds, or want of memory
 abbrev pub IfRefusal : FrontErr → (Refusal → Type 0) → Type 0
@@ -260,6 +268,16 @@ pub record MovesCounts (old new : StoreState) : Type 0 where
 abbrev pub HasFile : Option Disk → List ℕ → List ℕ → Type 0
 HasFile None name bytes = ⊥
 HasFile (Some d) name bytes = get d.files name ≡ Some bytes
+
+-- the answer that a source is refused, by this refusal or by one that is alike
+abbrev pub RefusesAs : Refusal → Status → Type 0
+RefusesAs refusal (Refused answer) = AreAlike answer refusal
+RefusesAs refusal Done = ⊥
+RefusesAs refusal Usage = ⊥
+RefusesAs refusal (ReadFault role) = ⊥
+RefusesAs refusal (Longer role) = ⊥
+RefusesAs refusal WriteFault = ⊥
+RefusesAs refusal NoMemory = ⊥
 
 -- the answer for want of memory, or for a fault of writing the line
 abbrev pub LineFails : SinkState → SinkState → Status → Type 0

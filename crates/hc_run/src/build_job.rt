@@ -2,6 +2,7 @@ ghost use Rattle.std.specs.Prelude.{◌≡◌, ◌≤◌, ◌⊎◌, false, true
 ghost use Rattle.std.specs.String.{string_bytes};
 ghost use Rattle.hc_outside.specs.Count.{HasRisen};
 ghost use Rattle.hc_outside.specs.Store.{SameFiles, Appended, AppendedFront, MovesWrites};
+ghost use Rattle.hc_core.specs.Depends.{Cyclic};
 ghost use Rattle.hc_net.specs.Valid.{IsValid};
 ghost use Rattle.hc_build.specs.Built.{IsBuildable};
 ghost use Rattle.hc_build.specs.Implements.{IsNetlistOf};
@@ -19,7 +20,7 @@ use crate::status::Role;
 use crate::words::{Job, read_words};
 use hc_build::build;
 use hc_core::Core;
-use hc_cycle::order;
+use hc_cycle::{cycles_reach_themselves, order};
 use hc_net::{Net, NoMemory, RawNet};
 use hc_outside::{LoadErr, OpenFile, Store, StoreErr, WriteErr};
 use hc_tree::FrontErr;
@@ -91,6 +92,7 @@ fn build_core<S: Store>(
     store: &mut S,
 ) -> Result<Due, WriteErr>
     requires buildable { IsBuildable core.now }
+    requires acyclic { Cyclic core.now → ⊥ }
     requires closed { (S.state store.old).is_open ≡ false }
     ensures builds { BuildsCore core.now name.now (S.state store.old) (S.state store.new) result }
     ensures counts { MovesWrites (S.state store.old) (S.state store.new) }
@@ -105,11 +107,13 @@ fn build_core<S: Store>(
     }
 }
 
-/// The netlist of a core. Nothing in a core of built forms depends on a value of the same clock, so that no order is refused.
+/// The netlist of a core. No value within a clock reaches itself, so that no order is refused.
 fn net_of(alloc: Global, core: &Core) -> Result<Net, NoMemory>
-    requires { IsBuildable core.now }
+    requires buildable { IsBuildable core.now }
+    requires acyclic { Cyclic core.now → ⊥ }
     ensures { IfOk result (IsNetlistOf core.now) }
 {
+    cycles_reach_themselves();
     match order(alloc, core) {
         Ok(ranks) => {
             let net = build(alloc, core, &ranks);

@@ -1,7 +1,7 @@
 ghost use Rattle.std.specs.Prelude.{◌≡◌, ℕ, List, ◌⊎◌};
 ghost use Rattle.hc_core.specs.declared.object.Core.{Core};
 ghost use Rattle.hc_tree.specs.declared.refusal.Refusal.{Refusal};
-ghost use Rattle.hc_run.specs.Answer.{Accepted, First, HasCore, HasRefusal};
+ghost use Rattle.hc_run.specs.Answer.{Accepted, AreAlike, First, HasCore, HasRefusal};
 
 /// Bytes have at most one core.
 pub fn one_core()
@@ -12,9 +12,9 @@ pub fn one_core()
     hc_expand::one_core();
 }
 
-/// All first refusals of the same bytes are equal.
+/// All first refusals of the same bytes are equal, but where they name cycles: of these there may be several.
 pub fn one_first_refusal()
-    ensures { (bytes : List ℕ) (refusal other : Refusal) → First bytes refusal → First bytes other → refusal ≡ other }
+    ensures { (bytes : List ℕ) (refusal other : Refusal) → First bytes refusal → First bytes other → AreAlike refusal other }
 {
     hc_lex::one_reading();
     hc_lex::one_first_breach();
@@ -25,6 +25,7 @@ pub fn one_first_refusal()
     hc_expand::one_core();
     hc_expand::one_refusal();
     hc_expand::never_both();
+    hc_cycle::cycles_reach_themselves();
 }
 
 /// Bytes have a core or a first refusal.
@@ -34,6 +35,7 @@ pub fn core_or_refusal()
     hc_lex::tokens_or_breach();
     hc_parse::tree_or_refusal();
     hc_expand::core_or_refusal();
+    hc_cycle::cycle_or_none();
 }
 
 /// Bytes that have a core have no first refusal.
@@ -46,4 +48,5 @@ pub fn never_both()
     hc_parse::never_both();
     hc_expand::one_core();
     hc_expand::never_both();
+    hc_cycle::cycles_reach_themselves();
 }

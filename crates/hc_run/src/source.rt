@@ -5,6 +5,7 @@ ghost use Rattle.std.specs.List.{All};
 ghost use Rattle.hc_expand.specs.Spelled.{IsSpelled};
 ghost use Rattle.hc_lex.specs.Lexes.{IsPlain};
 ghost use Rattle.hc_core.specs.Sound.{IsSound};
+ghost use Rattle.hc_core.specs.Depends.{Cyclic};
 ghost use Rattle.hc_core.specs.Weight.{weight_of};
 ghost use Rattle.hc_core.specs.Rules.{first_broken};
 ghost use Rattle.hc_rules.specs.Weight.{most_weight};
@@ -16,6 +17,7 @@ ghost use Rattle.hc_run.specs.Source.{IsTreeOf, FirstOfTree, IsUnbuilt};
 
 use hc_build::unbuilt;
 use hc_core::Core;
+use hc_cycle::order;
 use hc_expand::expand;
 use hc_lex::{Tokens, lex, tokens_are_plain};
 use hc_parse::parse;
@@ -27,7 +29,7 @@ use std::alloc::Global;
 pub const SOURCE_LIMIT: u64 = 4_194_304;
 
 /// The core of a source, or its first refusal: S1, L1 or L2 of its bytes, then S3, L3 or S2 of its tokens, then the first
-/// of S23, S4 to S15, S24, L4 to L7 and L9 of its tree, and then S16, S18 to S22, L8 and `NotBuilt` of its core.
+/// of S23, S4 to S15, S24, L4 to L7 and L9 of its tree, and then S16, S18 to S22, S17, L8 and `NotBuilt` of its core.
 pub fn read_source(alloc: Global, bytes: &[u8]) -> Result<Core, FrontErr>
     requires { length bytes.now ≤ source_limit }
     ensures accepted { IfOk result (Accepted bytes.now) }
@@ -80,6 +82,7 @@ fn checked(alloc: Global, core: Core) -> Result<Core, FrontErr>
     requires { IsSound core }
     ensures same { IfOk result (λ found. found ≡ core) }
     ensures rules { IfOk result (λ found. first_broken found ≡ None) }
+    ensures acyclic { IfOk result (λ found. Cyclic found → ⊥) }
     ensures buildable { IfOk result IsBuildable }
     ensures refused { IfErr result (λ e. IfRefusal e (FirstOfCore core)) }
 {
@@ -92,19 +95,38 @@ fn checked(alloc: Global, core: Core) -> Result<Core, FrontErr>
     }
 }
 
-/// That a core can be built, or its first refusal: S16, then S18 to S22, then L8, and then `NotBuilt`.
+/// That a core can be built, or its first refusal: S16, then S18 to S22, then S17, then L8, and then `NotBuilt`.
 fn check_core(alloc: Global, core: &Core) -> Result<(), FrontErr>
     requires { IsSound core.now }
     ensures rules { IfOk result (λ _. first_broken core.now ≡ None) }
+    ensures acyclic { IfOk result (λ _. Cyclic core.now → ⊥) }
     ensures light { IfOk result (λ _. weight_of core.now ≤ most_weight) }
     ensures built { IfOk result (λ _. built.unbuilt core.now ≡ None) }
     ensures refused { IfErr result (λ e. IfRefusal e (FirstOfCore core.now)) }
 {
     match check_rules(alloc, core) {
-        Ok(()) => match check_size(core) {
-            Ok(()) => Ok(()),
-            Err(refusal) => Err(FrontErr::Refused(refusal)),
-        },
+        Ok(()) => check_values(alloc, core),
+        Err(e) => Err(e),
+    }
+}
+
+/// That a core which breaks no rule before S17 can be built, or its first refusal: S17, then L8, and then `NotBuilt`.
+fn check_values(alloc: Global, core: &Core) -> Result<(), FrontErr>
+    requires sound { IsSound core.now }
+    requires rules { first_broken core.now ≡ None }
+    ensures acyclic { IfOk result (λ _. Cyclic core.now → ⊥) }
+    ensures light { IfOk result (λ _. weight_of core.now ≤ most_weight) }
+    ensures built { IfOk result (λ _. built.unbuilt core.now ≡ None) }
+    ensures refused { IfErr result (λ e. IfRefusal e (FirstOfCore core.now)) }
+{
+    match order(alloc, core) {
+        Ok(ranks) => {
+            drop(ranks);
+            match check_size(core) {
+                Ok(()) => Ok(()),
+                Err(refusal) => Err(FrontErr::Refused(refusal)),
+            }
+        }
         Err(e) => Err(e),
     }
 }
@@ -113,6 +135,7 @@ fn check_core(alloc: Global, core: &Core) -> Result<(), FrontErr>
 fn check_size(core: &Core) -> Result<(), Refusal>
     requires sound { IsSound core.now }
     requires rules { first_broken core.now ≡ None }
+    requires acyclic { Cyclic core.now → ⊥ }
     ensures light { IfOk result (λ _. weight_of core.now ≤ most_weight) }
     ensures built { IfOk result (λ _. built.unbuilt core.now ≡ None) }
     ensures refused { IfErr result (FirstOfCore core.now) }

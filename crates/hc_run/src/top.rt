@@ -23,6 +23,7 @@ ghost use Rattle.hc_run.specs.Answer.{
   HasFile,
   LineFails,
   LoadFails,
+  RefusesAs,
   KeepsFiles,
 };
 ghost use Rattle.hc_run.specs.Steps.{Answers, Reports, status_of, text_of};
@@ -71,7 +72,7 @@ pub fn hcc<S: Store, K: Sink>(alloc: Global, words: &[String], store: &mut S, ou
         ⊎ LineFails (K.state out.old) (K.state out.new) result }
     ensures refused_where { (file bytes : List ℕ) (refusal : Refusal) → Loads (map string_bytes words.now) file →
         HasFile (S.state store.old).disk file bytes → length bytes ≤ source_limit → First bytes refusal →
-        (result ≡ Status.Refused refusal)
+        RefusesAs refusal result
         ⊎ LoadFails (S.state store.old) (S.state store.new) result
         ⊎ LineFails (K.state out.old) (K.state out.new) result }
     ensures completeness { (file bytes : List ℕ) (core : Core) → Loads (map string_bytes words.now) file →

@@ -1,8 +1,6 @@
-use Rattle.std.proofs.Common.{◌≡◌, ◌≢◌, ◌<◌, ◌≤◌, ◌⊎◌, inl, inr, ◌+◌, ◌-◌, ◌/◌, ℕ, length, get_or, sym, ◌∙◌, arith}
+use Rattle.std.proofs.Common.{inl, inr, ◌+◌, ◌-◌, ◌/◌, sym, ◌∙◌, arith}
 use Rattle.std.proofs.lemmas.Bool.{cases_lt}
-use Rattle.hc_tree.specs.declared.refusal.Node.{Node}
 use Rattle.hc_tree.specs.declared.refusal.Node.TheVariants.{Value}
-use Rattle.hc_cycle.specs.Ranks.{number_of, rank_of}
 use Rattle.hc_cycle.proofs.Halves.{no_rank, has_rank, less_before, greater_behind}
 use Rattle.hc_cycle.proofs.ranks.rank_in.Goals as goal
 

@@ -1,5 +1,5 @@
 -- The nodes before the bounds are less, and those behind are greater.
-use Rattle.std.proofs.Common.{◌≡◌, ◌<◌, ◌≤◌, ◌-◌, ℕ, length, get_or}
+use Rattle.std.proofs.Common.{◌<◌, ◌≤◌, ◌-◌, ℕ, length, get_or}
 use Rattle.hc_tree.specs.declared.refusal.Node.{Node}
 use Rattle.hc_cycle.specs.Ranks.{number_of}
 use Rattle.hc_cycle.proofs.ranks.rank_in.Given as goal
